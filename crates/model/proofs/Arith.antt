@@ -1,0 +1,159 @@
+-- The laws of one float operation, for every finite value that binary64 holds and that isn't -0: what +0 does to it, and that every number answered is such a value again. Everything above uses these laws and never `round`.
+use mathlib.Core.Path.{_≡_, refl, sym, ap, _∙_}
+use mathlib.Core.Bool.{Bool, true, false, cond, _&&_, true≢false, false≢true}
+use Prim.Native.Nat.{ℕ, zero, suc, _+_, _-_, _*_, _/_, _%_, _^_, _≤_, _<_}
+use native.Mathlib.Nat.{add-zero, sub-zero, zero-mul, mul-zero, mul-one, one-mul, mul-pos, mul-lt-mul-of-pos-right, lt-of-mul-lt-mul-right, zero-lt-suc}
+use native.Mathlib.Omega.{arith}
+use lib.IntN.{ℤ, pos, negsuc}
+use lib.Dec.{T, leb, ltb, eqb, leb→le, ltb→lt, leb·suc-zero, eqb·suc-zero}
+use lib.Pow.{pow-add, pow-pos, pow-lt}
+use lib.Ieee.{Float, nan, inf, fin, Format, binary64, prec, emax, low, up, down, unlike, round, sum, sub, mul, div, fits, toBits, ofBits}
+use lib.Ieee.Bits.{ofBits-toBits}
+use lib.Ieee.Digits.{back}
+use lib.Ieee.Exact.{HasValue, round-exact}
+use lib.Ieee.Fits.{up-pos, down-pos, round-fits, mul-fits, sub-fits, div-fits}
+use lib.Ieee.Nearest.{div-same}
+use lib.Ieee.Scale.{round-same}
+use Rattle.model.specs.Arith.{plusZero, Answer, number, overflow, zeroDivisor, clean, settled, isZero, isFinite, product, difference, quotient}
+
+-- a finite value of binary64 that isn't -0
+pub data Good : Float → Type 0 where
+  nought : Good plusZero
+  nonzero : {s : Bool} {m : ℕ} {e : ℤ} → T (fits binary64 (fin s (suc m) e)) → Good (fin s (suc m) e)
+
+-- if the answer is a number, it is such a value
+abbrev pub GoodAnswer : Answer → Type 0
+GoodAnswer (number v) = Good v
+GoodAnswer overflow = Unit {0}
+GoodAnswer zeroDivisor = Unit {0}
+
+-- ---- what a good value is
+
+pub good-finite : {x : Float} → Good x → isFinite x ≡ true
+unfolding isFinite
+good-finite nought = refl
+good-finite (nonzero h) = refl
+
+pub good-fits : {x : Float} → Good x → T (fits binary64 x)
+good-fits nought = unfold fits in tt
+good-fits (nonzero h) = h
+
+-- the only good zero is +0
+pub nought-is : {x : Float} → Good x → isZero x ≡ true → x ≡ plusZero
+unfolding isZero
+nought-is nought z = refl
+nought-is (nonzero h) z = absurd (false≢true z)
+
+-- reading leaves a good value as it is
+pub good-clean : {x : Float} → Good x → clean x ≡ x
+unfolding clean
+good-clean nought = refl
+good-clean (nonzero h) = refl
+
+-- and it makes every finite value of binary64 good
+pub clean-good : (x : Float) → isFinite x ≡ true → T (fits binary64 x) → Good (clean x)
+unfolding clean isFinite
+clean-good nan t h = absurd (false≢true t)
+clean-good (inf s) t h = absurd (false≢true t)
+clean-good (fin s zero e) t h = nought
+clean-good (fin s (suc m) e) t h = nonzero h
+
+-- ---- every number answered is good, whatever the operands
+
+settled-good : (x : Float) → T (fits binary64 x) → GoodAnswer (settled x)
+unfolding settled
+settled-good nan h = tt
+settled-good (inf s) h = tt
+settled-good (fin s zero e) h = nought
+settled-good (fin s (suc m) e) h = nonzero h
+
+pub product-good : (a b : Float) → GoodAnswer (product a b)
+unfolding product
+product-good a b = settled-good (mul binary64 a b) (mul-fits binary64 a b)
+
+pub difference-good : (a b : Float) → GoodAnswer (difference a b)
+unfolding difference
+difference-good a b = settled-good (sub binary64 a b) (sub-fits binary64 a b)
+
+pub quotient-good : (a b : Float) → GoodAnswer (quotient a b)
+unfolding quotient
+quotient-good a b = elim (isZero b) as (λ z. GoodAnswer (cond z zeroDivisor (settled (div binary64 a b)))) [
+  | true ↦ tt
+  | false ↦ settled-good (div binary64 a b) (div-fits binary64 a b)
+]
+
+-- ---- products with +0, and +0 over a nonzero value
+
+round-nought : (s : Bool) {a c : ℕ} → a ≡ 0 → 0 < c → settled (round binary64 s a c) ≡ number plusZero
+unfolding settled round
+round-nought s {a} {c} z C = ap settled (round-same binary64 s a c 0 1 C (zero-lt-suc 0) (omega arith))
+
+-- +0 times a good value is +0
+pub product-nought-left : {x : Float} → Good x → product plusZero x ≡ number plusZero
+unfolding product mul settled
+product-nought-left nought = refl
+product-nought-left (nonzero {s} {m} {e} h) = round-nought (unlike false s) (zero-mul (suc m * up e)) (mul-pos (zero-lt-suc 0) (down-pos e))
+
+-- a good value times +0 is +0
+pub product-nought-right : {x : Float} → Good x → product x plusZero ≡ number plusZero
+unfolding product mul settled
+product-nought-right nought = refl
+product-nought-right (nonzero {s} {m} {e} h) = round-nought (unlike s false) (mul-zero (suc m * up e)) (mul-pos (down-pos e) (zero-lt-suc 0))
+
+-- +0 over a good value that isn't zero is +0
+pub quotient-nought : {x : Float} → Good x → isZero x ≡ false → quotient plusZero x ≡ number plusZero
+unfolding quotient div settled isZero
+quotient-nought nought z = absurd (true≢false z)
+quotient-nought (nonzero {s} {m} {e} h) z =
+    rw eqb·suc-zero (round-nought (unlike false s) (zero-mul (down e)) (mul-pos (mul-pos (zero-lt-suc m) (up-pos e)) (zero-lt-suc 0)))
+
+-- ---- a good value minus +0: the exact difference is the value, `round` keeps what the format holds, and no two values of a format have the same sign and size
+
+last-three : (a b c d : Bool) → T (a && b && c && d) → T b × T c × T d
+last-three true true true true t = (tt, tt, tt)
+
+bounds : (f : Format) (s : Bool) (m : ℕ) (e : ℤ) → T (fits f (fin s (suc m) e)) → (suc m < 2 ^ prec f) × (down e ≤ 2 ^ low f) × (suc m * up e < 2 ^ suc (emax f) * down e)
+unfolding fits
+bounds f s m e h =
+    let t = last-three (eqb (suc m % 2) 1) (ltb (suc m) (2 ^ prec f)) (leb (down e) (2 ^ low f)) (ltb (suc m * up e) (2 ^ suc (emax f) * down e)) h in
+    (ltb→lt _ _ (t .0), leb→le _ _ (t .1), ltb→lt _ _ (t .2))
+
+-- 2 ^ e is 2 ^ j times the smallest value 2 ^ -l, for some j
+in-units : (l : ℕ) (e : ℤ) → down e ≤ 2 ^ l → (j : ℕ) × (up e * 2 ^ l ≡ 2 ^ j * down e)
+in-units l (pos k) h = (k + l, rw (mul-one, pow-add))
+in-units l (negsuc k) h =
+    let near : ¬ (l < suc k) = λ (g : l < suc k). omega (arith, pow-lt g) in
+    let fine : suc k ≤ l = omega arith in
+    (l - suc k, rw (one-mul, ← pow-add, back))
+
+same-value : (f : Format) (x : Float) (s : Bool) (m : ℕ) (e : ℤ) → T (fits f x) → T (fits f (fin s m e)) → HasValue x s (m * up e) (down e) → x ≡ fin s m e
+unfolding toBits
+same-value f (fin t n d) s m e p q v =
+    let l = 2 ^ low f in
+    let size : n * up d * l / down d ≡ m * up e * l / down e = div-same (n * up d * l) (down d) (m * up e * l) (down e) (down-pos d) (down-pos e) (omega (arith, ap (λ (x : ℕ). l * x) (v .1))) in
+    let bits : toBits f (fin t n d) ≡ toBits f (fin s m e) = cc in
+    sym (ofBits-toBits f (fin t n d) p) ∙ ap (ofBits f) bits ∙ ofBits-toBits f (fin s m e) q
+
+round-held : (f : Format) (s : Bool) (m : ℕ) (e : ℤ) → T (fits f (fin s (suc m) e)) → round f s (suc m * up e) (down e) ≡ fin s (suc m) e
+round-held f s m e h =
+    let (digits, smallest, largest) = bounds f s m e h in
+    let (j, units) = in-units (low f) e smallest in
+    let exact : suc m * up e * 2 ^ low f ≡ suc m * 2 ^ j * down e = omega (arith, ap (λ (x : ℕ). suc m * x) units) in
+    let small : suc m * 2 ^ j < 2 ^ (low f + suc (emax f)) = rw pow-add (lt-of-mul-lt-mul-right (down e) (omega (arith, mul-lt-mul-of-pos-right largest (pow-pos (low f))))) in
+    same-value f (round f s (suc m * up e) (down e)) s (suc m) e (round-fits f s (suc m * up e) (down e)) h
+    (round-exact f s (suc m * up e) (down e) (suc m) j (down-pos e) digits small exact)
+
+sum-nought : (f : Format) (s : Bool) (a c : ℕ) → sum f s a true 0 c ≡ round f s a c
+unfolding sum
+sum-nought f true a c = rw add-zero
+sum-nought f false a c = rw (leb·suc-zero, sub-zero)
+
+sub-nought : (f : Format) (s : Bool) (m : ℕ) (e : ℤ) → T (fits f (fin s (suc m) e)) → sub f (fin s (suc m) e) plusZero ≡ fin s (suc m) e
+unfolding sub
+sub-nought f s m e h = simp (mul-one, zero-mul, sum-nought) (round-held f s m e h)
+
+-- a good value minus +0 is the value
+pub difference-nought : {x : Float} → Good x → difference x plusZero ≡ number x
+unfolding difference sub settled
+difference-nought nought = refl
+difference-nought (nonzero {s} {m} {e} h) = ap settled (sub-nought binary64 s m e h)

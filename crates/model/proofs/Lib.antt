@@ -1,0 +1,8 @@
+-- The laws about the definitions of specs/, in the order in which they build on each other: what nobody has to believe.
+pub mod Lists
+pub mod Search
+pub mod Arith
+pub mod Labels
+pub mod Fill
+pub mod Slots
+pub mod Bytes

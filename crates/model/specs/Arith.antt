@@ -1,0 +1,56 @@
+-- One float operation: document 01, "Dense Crout" ("rounded once", "a zero result becomes +0", 16 and 17) and "Running". Definitions only.
+use Prim.Native.Nat.{ℕ, zero, suc}
+use mathlib.Core.Bool.{Bool, true, false, cond}
+use lib.IntN.{pos}
+use lib.Ieee as Ieee
+use lib.Ieee.{Float, nan, inf, fin, binary64}
+
+abbrev pub plusZero : Float
+plusZero = fin false 0 (pos 0)
+
+-- "One operation gives a number, an overflow or a zero divisor."
+pub data Answer : Type 0 where
+  number : Float → Answer
+  overflow : Answer
+  zeroDivisor : Answer
+
+-- a value as it is read: "An input -0 is read as +0"
+unfoldable pub clean : Float → Float
+clean nan = nan
+clean (inf s) = inf s
+clean (fin s zero e) = plusZero
+clean (fin s (suc m) e) = fin s (suc m) e
+
+-- a rounded result as an answer: "a zero result becomes +0", "A result that isn't finite is refused"
+unfoldable pub settled : Float → Answer
+settled nan = overflow
+settled (inf s) = overflow
+settled (fin s zero e) = number plusZero
+settled (fin s (suc m) e) = number (fin s (suc m) e)
+
+unfoldable pub isZero : Float → Bool
+isZero nan = false
+isZero (inf s) = false
+isZero (fin s zero e) = true
+isZero (fin s (suc m) e) = false
+
+unfoldable pub isFinite : Float → Bool
+isFinite nan = false
+isFinite (inf s) = false
+isFinite (fin s m e) = true
+
+-- "Each product, difference and quotient is rounded once."
+unfoldable pub product : Float → Float → Answer
+product a b = settled (Ieee.mul binary64 a b)
+
+unfoldable pub difference : Float → Float → Answer
+difference a b = settled (Ieee.sub binary64 a b)
+
+unfoldable pub quotient : Float → Float → Answer
+quotient a b = cond (isZero b) zeroDivisor (settled (Ieee.div binary64 a b))
+
+-- an operation on an answer: the first refusal stays
+unfoldable pub next : Answer → (Float → Answer) → Answer
+next (number x) f = f x
+next overflow f = overflow
+next zeroDivisor f = zeroDivisor

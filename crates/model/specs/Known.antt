@@ -1,0 +1,105 @@
+-- Document 01's "Known plans and values" and its listing, as one theorem about the definitions.
+use Prim.Native.Nat.{ℕ}
+use mathlib.Core.Bool.{true, false}
+use mathlib.Core.Path.{_≡_, refl}
+use mathlib.Core.List.{List, [], _∷_, map}
+use lib.IntN.{pos, negsuc}
+use lib.Ieee.{Float, fin, binary64, ofInt, mul, sub, div}
+use Rattle.model.specs.Lists.{rising, falling, joined, kept, total, some, count}
+use Rattle.model.specs.Label.{label, column, row, places, place}
+use Rattle.model.specs.Fill.{Plan, positionFrom, position, heldWithin, held, heldPlaces, slots, slot, missingFrom, missing, pairsAt, below, above, productCount, recordCount}
+use Rattle.model.specs.Arith.{plusZero, clean, settled, isZero, isFinite, product, difference, quotient, next}
+use Rattle.model.specs.Formula.{C, Y, Tables, solved, refused, entry, closed, starting, less, lessAll, over, tested, value, worked}
+use Rattle.model.specs.Crout.{inner, lower, forward, upper, backward, batch, formulas, denseFormulas, reducedFormulas, dense}
+use Rattle.model.specs.Program.{opening, recordsOf, chained, compiledRecords, compiled}
+use Rattle.model.specs.Compile.{written, refusal, judged, compiles}
+use Rattle.model.specs.Check.{chainAfter, chain, kindOf, formed, inOrder, inTurn, complete, checkLinks, check}
+use Rattle.model.specs.Run.{Outcome, solution, stopped, step, follow, notFinite, ran}
+
+abbrev int : ℕ → Float
+int n = ofInt binary64 (pos n)
+
+abbrev ints : List ℕ → List Float
+ints = map int
+
+-- 1/2, -1, 2^1000 and 2^-1000
+abbrev half : Float
+half = fin false 1 (negsuc 0)
+
+abbrev minusOne : Float
+minusOne = fin true 1 (pos 0)
+
+abbrev huge : Float
+huge = fin false 1 (pos 1000)
+
+abbrev tiny : Float
+tiny = fin false 1 (negsuc 999)
+
+-- the plan of document 002, the full plan of order 2 and the plan of order 1
+abbrev plan₈ : Plan
+plan₈ = 1 ∷ 2 ∷ 4 ∷ 8 ∷ 10 ∷ 12 ∷ 15 ∷ 21 ∷ 28 ∷ 30 ∷ 33 ∷ 36 ∷ []
+
+abbrev full₂ : Plan
+full₂ = 1 ∷ 2 ∷ 3 ∷ 4 ∷ []
+
+abbrev one : Plan
+one = 1 ∷ []
+
+-- the compiled run of order 2 on A and B, and that of order 1
+abbrev ran₂ : List Float → List Float → Outcome
+ran₂ A B = ran (compiled 2 full₂) A B 4 2 2
+
+abbrev ran₁ : List Float → List Float → Outcome
+ran₁ A B = ran (compiled 1 one) A B 1 1 1
+
+-- the tables of V1 and of V4
+abbrev tables₁ : Tables
+tables₁ = record { order = 2; c = int 2 ∷ int 4 ∷ half ∷ int 2 ∷ []; y = ints (2 ∷ 2 ∷ []); x = ints (1 ∷ 2 ∷ []) }
+
+abbrev tables₄ : Tables
+tables₄ = record { order = 1; c = minusOne ∷ []; y = plusZero ∷ []; x = plusZero ∷ [] }
+
+pub record Known : Type 0 where
+  p1 : (label 6 5 2 ≡ 15) × (label 6 1 6 ≡ 11) × (label 6 6 6 ≡ 36) × (place 6 15 ≡ (5, 2)) × (place 6 11 ≡ (1, 6)) × (place 6 36 ≡ (6, 6))
+  p2 : compiles 2 (1 ∷ 2 ∷ 3 ∷ []) 4 92 ≡ written 4 3 23
+  p3 : compiles 2 (1 ∷ 2 ∷ 4 ∷ []) 4 72 ≡ written 3 1 18
+  p4 : compiles 2 (2 ∷ 3 ∷ []) 4 92 ≡ refusal 5 1
+  p5 : compiles 3 [] 9 400 ≡ refusal 5 1
+  p6 : (compiles 2 (1 ∷ 1 ∷ []) 4 92 ≡ refusal 4 2) × (compiles 2 (5 ∷ []) 4 92 ≡ refusal 3 1)
+  p7 : (compiles 0 [] 0 0 ≡ refusal 1 0) × (compiles 601 [] 361201 0 ≡ refusal 1 0)
+  p8 : compiles 6 plan₈ 36 364 ≡ written 18 19 91
+  v1 : (dense 2 full₂ (ints (2 ∷ 4 ∷ 1 ∷ 4 ∷ [])) (ints (4 ∷ 12 ∷ [])) ≡ solved tables₁)
+      × (ran₂ (ints (2 ∷ 4 ∷ 1 ∷ 4 ∷ [])) (ints (4 ∷ 12 ∷ [])) ≡ solution tables₁ 3 3)
+  v2 : (dense 2 full₂ (ints (1 ∷ 1 ∷ 1 ∷ 1 ∷ [])) (ints (4 ∷ 12 ∷ [])) ≡ refused 17 C 4)
+      × (ran₂ (ints (1 ∷ 1 ∷ 1 ∷ 1 ∷ [])) (ints (4 ∷ 12 ∷ [])) ≡ stopped 17 13 C 4)
+  v3 : (dense 1 one (tiny ∷ []) (huge ∷ []) ≡ refused 16 Y 1) × (ran₁ (tiny ∷ []) (huge ∷ []) ≡ stopped 16 4 Y 1)
+  v4 : (dense 1 one (minusOne ∷ []) (plusZero ∷ []) ≡ solved tables₄) × (ran₁ (minusOne ∷ []) (plusZero ∷ []) ≡ solution tables₄ 0 1)
+  -- the listing for input `1 1`, a record a line
+  listing : compiled 1 one
+      ≡ 1 ∷ 1 ∷ 1 ∷ 1
+      ∷ 1 ∷ 1 ∷ 1 ∷ 2
+      ∷ 9 ∷ 0 ∷ 0 ∷ 3
+      ∷ 2 ∷ 1 ∷ 0 ∷ 4
+      ∷ 7 ∷ 1 ∷ 0 ∷ 5
+      ∷ 8 ∷ 0 ∷ 0 ∷ 6
+      ∷ 3 ∷ 1 ∷ 0 ∷ 7
+      ∷ 8 ∷ 0 ∷ 0 ∷ 0
+      ∷ []
+
+pub known : Known
+unfolding rising falling joined kept total some count label column row places place positionFrom position heldWithin held heldPlaces slots slot missingFrom missing pairsAt below above productCount recordCount clean settled isZero isFinite product difference quotient next entry closed starting less lessAll over tested value worked inner lower forward upper backward batch formulas denseFormulas reducedFormulas dense opening recordsOf chained compiledRecords compiled judged compiles chainAfter chain kindOf formed inOrder inTurn complete checkLinks check step follow notFinite ran mul sub div ofInt
+known = record {
+  p1 = (refl, refl, refl, refl, refl, refl);
+  p2 = refl;
+  p3 = refl;
+  p4 = refl;
+  p5 = refl;
+  p6 = (refl, refl);
+  p7 = (refl, refl);
+  p8 = refl;
+  v1 = (refl, refl);
+  v2 = (refl, refl);
+  v3 = (refl, refl);
+  v4 = (refl, refl);
+  listing = refl;
+}

@@ -1,0 +1,105 @@
+-- A run of a program, and what it leaves in the lent tables: document 01, "Running", 14 to 17. Definitions only.
+use Prim.Native.Nat.{ℕ, suc}
+use mathlib.Core.Bool.{true, false, cond, _&&_}
+use mathlib.Core.List.{List, [], _∷_}
+use lib.Dec.{eqb}
+use lib.ListN.{length, replicate}
+use lib.Ieee.{Float}
+use Rattle.model.specs.Arith.{plusZero, Answer, number, overflow, zeroDivisor, quotient, isZero, isFinite}
+use Rattle.model.specs.Formula.{Table, C, Y, X, Tables, entry, closed, starting, less}
+use Rattle.model.specs.Crout.{nothing}
+use Rattle.model.specs.Check.{Link, Kind, opens, subtracts, divides, closes, closesPivot, none, kindOf, check, chain, fine, refusal, word}
+
+-- "The runner's state is the open target, its running number and the counts of closed entries": here the closed entries themselves, and
+-- beside them the products and quotients made.
+pub record State : Type 0 where
+  pub tables : Tables
+  pub table : Table
+  pub target : ℕ
+  pub running : Float
+  pub products : ℕ
+  pub quotients : ℕ
+
+-- how a run ends
+pub data Outcome : Type 0 where
+  -- the closed tables, the products and the quotients made
+  solution : Tables → ℕ → ℕ → Outcome
+  -- 16 or 17, the record, and the table and number of the open target
+  stopped : ℕ → ℕ → Table → ℕ → Outcome
+  -- 7 to 15 and the detail
+  refusedBy : ℕ → ℕ → Outcome
+
+-- the state after a record, or the refusal there, 16 or 17
+pub data Stepped : Type 0 where
+  going : State → Stepped
+  stop : ℕ → Stepped
+
+-- the states after the kinds' steps: a target is opened, a product subtracted, a quotient formed, the target closed
+abbrev pub opened : State → Table → ℕ → Float → State
+opened z t k v = record { tables = z .tables; table = t; target = k; running = v; products = z .products; quotients = z .quotients }
+
+abbrev pub subtracted : State → Float → State
+subtracted z v = record { tables = z .tables; table = z .table; target = z .target; running = v; products = suc (z .products); quotients = z .quotients }
+
+abbrev pub dividedBy : State → Float → State
+dividedBy z v = record { tables = z .tables; table = z .table; target = z .target; running = v; products = z .products; quotients = suc (z .quotients) }
+
+abbrev pub closing : State → State
+closing z = record { tables = closed (z .tables) (z .table) (z .running); table = z .table; target = z .target; running = z .running; products = z .products; quotients = z .quotients }
+
+-- an operation's answer as a step
+abbrev pub settledStep : Answer → (Float → State) → Stepped
+settledStep (number v) f = going (f v)
+settledStep overflow f = stop 16
+settledStep zeroDivisor f = stop 17
+
+-- one record: kind, p and q
+unfoldable pub step : List Float → List Float → State → Kind → ℕ → ℕ → Stepped
+step A B z (opens C) p q = going (opened z C q (starting A B (z .tables) C p))
+step A B z (opens Y) p q = going (opened z Y p (starting A B (z .tables) Y p))
+step A B z (opens X) p q = going (opened z X p (starting A B (z .tables) X p))
+step A B z (subtracts t) p q = settledStep (less (z .running) (entry (z .tables) C p) (entry (z .tables) t q)) (subtracted z)
+step A B z divides p q = settledStep (quotient (z .running) (entry (z .tables) C p)) (dividedBy z)
+step A B z closes p q = going (closing z)
+step A B z closesPivot p q = cond (isZero (z .running)) (stop 17) (going (closing z))
+step A B z none p q = going z
+
+-- the records of a chain, up to the first refusal
+unfoldable pub follow : List Float → List Float → State → List Link → Outcome
+follow A B z [] = solution (z .tables) (z .products) (z .quotients)
+follow A B z (l ∷ ls) = elim (step A B z (kindOf (l .at .kind)) (l .at .p) (l .at .q)) [
+  | going z′ ↦ follow A B z′ ls
+  | stop r ↦ stopped r (l .index) (z .table) (z .target)
+]
+
+-- nothing opened, nothing closed
+abbrev pub fresh : ℕ → State
+fresh N = record { tables = nothing N; table = C; target = 0; running = plusZero; products = 0; quotients = 0 }
+
+-- the position, from 1, of the first value that is not finite; 0 if all are
+unfoldable pub notFinite : ℕ → List Float → ℕ
+notFinite k [] = 0
+notFinite k (v ∷ vs) = let r = notFinite (suc k) vs in cond (isFinite v) r k
+
+-- 7 to 13, 14, 15, then the records. lc, ly and lx are the lengths of the lent C, Y and X.
+unfoldable pub ran : List ℕ → List Float → List Float → ℕ → ℕ → ℕ → Outcome
+ran W A B lc ly lx =
+    let N = word W 0 in
+    let done = follow A B (fresh N) (chain W .links) in
+    let a = notFinite 1 A in
+    let b = notFinite 1 B in
+    elim (check W) [
+      | refusal r d ↦ refusedBy r d
+      | fine ↦ elim (eqb (length A) (word W 1) && (eqb (length B) N && (eqb lc (word W 2) && (eqb ly N && eqb lx N)))) [
+        | false ↦ refusedBy 14 0
+        | true ↦ elim (eqb a 0) [ false ↦ refusedBy 15 a | true ↦ elim (eqb b 0) [ false ↦ refusedBy 15 b | true ↦ done ] ]
+      ]
+    ]
+
+-- What a run that ends so leaves in the lent table t, which held vs: that after 7 to 15, +0 everywhere after 16 and 17, the closed values on a solution.
+unfoldable pub leaves : Outcome → Table → List Float → List Float
+leaves (solution t p q) C vs = t .c
+leaves (solution t p q) Y vs = t .y
+leaves (solution t p q) X vs = t .x
+leaves (stopped r k u n) t vs = replicate (length vs) plusZero
+leaves (refusedBy r d) t vs = vs
