@@ -6,3 +6,4 @@ pub mod Labels
 pub mod Fill
 pub mod Slots
 pub mod Bytes
+pub mod Beside

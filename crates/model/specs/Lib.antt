@@ -11,4 +11,5 @@ pub mod Check
 pub mod Run
 pub mod File
 pub mod Boundary
+pub mod Agreement
 pub mod Known

@@ -1,0 +1,57 @@
+-- Demand 3 as a statement: what the run of a compiled program is beside dense Crout. Document 01, "Set beside dense Crout". Definitions only.
+use Prim.Native.Nat.{ℕ}
+use mathlib.Core.Bool.{true}
+use mathlib.Core.Path.{_≡_}
+use mathlib.Core.List.{List, map}
+use lib.Dec.{T}
+use lib.ListN.{length, getD}
+use lib.Ieee.{Float, nan, fits, binary64}
+use Rattle.model.specs.Label.{isOrder, label, place}
+use Rattle.model.specs.Fill.{Plan, heldPlaces, slot, missing, productCount}
+use Rattle.model.specs.Formula.{Table, C, Y, X, Tables, entry, Ended, solved, refused}
+use Rattle.model.specs.Compile.{judged, good}
+use Rattle.model.specs.Run.{Outcome, solution, stopped, refusedBy, notFinite}
+
+-- every entry is a value of binary64, as those of an f64 slice are; past the end stands nan, which is one
+abbrev pub Values : List Float → Type 0
+Values vs = (k : ℕ) → T (fits binary64 (getD vs k nan))
+
+-- an order, a plan whose labels rise strictly within 1..N², and finite values of the right lengths
+pub record Given (N : ℕ) (L : Plan) (A B : List Float) : Type 0 where
+  pub order : isOrder N ≡ true
+  pub labels : judged N 0 1 L ≡ good
+  pub lengthA : length A ≡ length L
+  pub lengthB : length B ≡ N
+  pub valuesA : Values A
+  pub valuesB : Values B
+  pub finiteA : notFinite 1 A ≡ 0
+  pub finiteB : notFinite 1 B ≡ 0
+
+-- "and no pivot is missing"
+pub record Accepted (N : ℕ) (L : Plan) (A B : List Float) : Type 0 where
+  pub given : Given N L A B
+  pub pivots : missing N L ≡ 0
+
+-- what is compared of two endings
+pub data Seen : Type 0 where
+  -- the tables and the products
+  whole : Tables → ℕ → Seen
+  -- 16 or 17, and the table and number of the target
+  ended : ℕ → Table → ℕ → Seen
+  -- a refusal before the first record
+  early : ℕ → ℕ → Seen
+
+-- a run's ending, but for its record index and its quotients
+unfoldable pub seen : Outcome → Seen
+seen (solution t products quotients) = whole t products
+seen (stopped r index t k) = ended r t k
+seen (refusedBy r d) = early r d
+
+-- Dense Crout's ending as the run has to show it: X and Y as they are, C(J) the entry of the J-th held place, and the plan's product count;
+-- a refusal in C by the slot of its place.
+unfoldable pub compressed : ℕ → Plan → Ended → Seen
+compressed N L (solved t) =
+    whole (record { order = t .order; c = map (λ p. entry t C (label N (p .0) (p .1))) (heldPlaces N L); y = t .y; x = t .x }) (productCount N L)
+compressed N L (refused r C k) = ended r C (slot N L (place N k .0) (place N k .1))
+compressed N L (refused r Y k) = ended r Y k
+compressed N L (refused r X k) = ended r X k
