@@ -6,4 +6,6 @@ pub mod Labels
 pub mod Fill
 pub mod Slots
 pub mod Bytes
+pub mod Plans
 pub mod Beside
+pub mod Links

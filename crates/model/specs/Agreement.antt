@@ -1,5 +1,5 @@
 -- Demand 3 as a statement: what the run of a compiled program is beside dense Crout. Document 01, "Set beside dense Crout". Definitions only.
-use Prim.Native.Nat.{ℕ}
+use Prim.Native.Nat.{ℕ, _+_}
 use mathlib.Core.Bool.{true}
 use mathlib.Core.Path.{_≡_}
 use mathlib.Core.List.{List, map}
@@ -7,7 +7,7 @@ use lib.Dec.{T}
 use lib.ListN.{length, getD}
 use lib.Ieee.{Float, nan, fits, binary64}
 use Rattle.model.specs.Label.{isOrder, label, place}
-use Rattle.model.specs.Fill.{Plan, heldPlaces, slot, missing, productCount}
+use Rattle.model.specs.Fill.{Plan, heldPlaces, slot, missing, above, productCount}
 use Rattle.model.specs.Formula.{Table, C, Y, X, Tables, entry, Ended, solved, refused}
 use Rattle.model.specs.Compile.{judged, good}
 use Rattle.model.specs.Run.{Outcome, solution, stopped, refusedBy, notFinite}
@@ -34,24 +34,27 @@ pub record Accepted (N : ℕ) (L : Plan) (A B : List Float) : Type 0 where
 
 -- what is compared of two endings
 pub data Seen : Type 0 where
-  -- the tables and the products
-  whole : Tables → ℕ → Seen
+  -- the tables, the products and the quotients
+  whole : Tables → ℕ → ℕ → Seen
   -- 16 or 17, and the table and number of the target
   ended : ℕ → Table → ℕ → Seen
   -- a refusal before the first record
   early : ℕ → ℕ → Seen
 
--- a run's ending, but for its record index and its quotients
+-- a run's ending, but for the record of its refusal
 unfoldable pub seen : Outcome → Seen
-seen (solution t products quotients) = whole t products
+seen (solution t products quotients) = whole t products quotients
 seen (stopped r index t k) = ended r t k
 seen (refusedBy r d) = early r d
 
--- Dense Crout's ending as the run has to show it: X and Y as they are, C(J) the entry of the J-th held place, and the plan's product count;
--- a refusal in C by the slot of its place.
+-- dense Crout's tables with C compressed: C(J) is the entry of the J-th held place
+unfoldable pub packed : ℕ → Plan → Tables → Tables
+packed N L t = record { order = t .order; c = map (λ p. entry t C (label N (p .0) (p .1))) (heldPlaces N L); y = t .y; x = t .x }
+
+-- Dense Crout's ending as the run has to show it: X and Y as they are, C(J) the entry of the J-th held place, the plan's product count, and a
+-- quotient for each y and each held place above the diagonal; a refusal in C by the slot of its place.
 unfoldable pub compressed : ℕ → Plan → Ended → Seen
-compressed N L (solved t) =
-    whole (record { order = t .order; c = map (λ p. entry t C (label N (p .0) (p .1))) (heldPlaces N L); y = t .y; x = t .x }) (productCount N L)
+compressed N L (solved t) = whole (packed N L t) (productCount N L) (N + above N L)
 compressed N L (refused r C k) = ended r C (slot N L (place N k .0) (place N k .1))
 compressed N L (refused r Y k) = ended r Y k
 compressed N L (refused r X k) = ended r X k
