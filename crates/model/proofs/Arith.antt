@@ -112,14 +112,14 @@ quotient-nought (nonzero {s} {m} {e} h) z =
 last-three : (a b c d : Bool) → T (a && b && c && d) → T b × T c × T d
 last-three true true true true t = (tt, tt, tt)
 
-bounds : (f : Format) (s : Bool) (m : ℕ) (e : ℤ) → T (fits f (fin s (suc m) e)) → (suc m < 2 ^ prec f) × (down e ≤ 2 ^ low f) × (suc m * up e < 2 ^ suc (emax f) * down e)
+pub bounds : (f : Format) (s : Bool) (m : ℕ) (e : ℤ) → T (fits f (fin s (suc m) e)) → (suc m < 2 ^ prec f) × (down e ≤ 2 ^ low f) × (suc m * up e < 2 ^ suc (emax f) * down e)
 unfolding fits
 bounds f s m e h =
     let t = last-three (eqb (suc m % 2) 1) (ltb (suc m) (2 ^ prec f)) (leb (down e) (2 ^ low f)) (ltb (suc m * up e) (2 ^ suc (emax f) * down e)) h in
     (ltb→lt _ _ (t .0), leb→le _ _ (t .1), ltb→lt _ _ (t .2))
 
 -- 2 ^ e is 2 ^ j times the smallest value 2 ^ -l, for some j
-in-units : (l : ℕ) (e : ℤ) → down e ≤ 2 ^ l → (j : ℕ) × (up e * 2 ^ l ≡ 2 ^ j * down e)
+pub in-units : (l : ℕ) (e : ℤ) → down e ≤ 2 ^ l → (j : ℕ) × (up e * 2 ^ l ≡ 2 ^ j * down e)
 in-units l (pos k) h = (k + l, rw (mul-one, pow-add))
 in-units l (negsuc k) h =
     let near : ¬ (l < suc k) = λ (g : l < suc k). omega (arith, pow-lt g) in
@@ -134,7 +134,7 @@ same-value f (fin t n d) s m e p q v =
     let bits : toBits f (fin t n d) ≡ toBits f (fin s m e) = cc in
     sym (ofBits-toBits f (fin t n d) p) ∙ ap (ofBits f) bits ∙ ofBits-toBits f (fin s m e) q
 
-round-held : (f : Format) (s : Bool) (m : ℕ) (e : ℤ) → T (fits f (fin s (suc m) e)) → round f s (suc m * up e) (down e) ≡ fin s (suc m) e
+pub round-held : (f : Format) (s : Bool) (m : ℕ) (e : ℤ) → T (fits f (fin s (suc m) e)) → round f s (suc m * up e) (down e) ≡ fin s (suc m) e
 round-held f s m e h =
     let (digits, smallest, largest) = bounds f s m e h in
     let (j, units) = in-units (low f) e smallest in

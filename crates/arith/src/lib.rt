@@ -1,0 +1,77 @@
+// One float operation, and how a value is read: document 01, "Dense Crout" and "Running". Each result is
+// compared with the definition's bit for bit.
+ghost use mathlib.Core.Path.{_≡_};
+ghost use mathlib.Core.Bool.{cond};
+ghost use Rattle.model.specs.Arith as model;
+ghost use Rattle.model.specs.Formula as formula;
+ghost use Rattle.arith.specs.Answer.{answerOf};
+
+// What one operation gives.
+pub enum Operation {
+    Number(f64),
+    Overflow,
+    ZeroDivisor,
+}
+
+// Whether the value is a number: a number less itself is zero, and anything else less itself is a NaN,
+// which no order holds of.
+pub fn is_finite(value: f64) -> bool
+    ensures { λ r. ⌜ r ≡ model.isFinite value ⌝ }
+{
+    value - value >= 0.0
+}
+
+pub fn is_zero(value: f64) -> bool
+    ensures { λ r. ⌜ r ≡ model.isZero value ⌝ }
+{
+    value == 0.0
+}
+
+// The value with -0 as +0: +0 added to -0 is +0, and added to any other value it changes nothing.
+pub fn read(value: f64) -> f64
+    ensures { λ r. ⌜ r ≡ model.clean value ⌝ }
+{
+    value + 0.0
+}
+
+// A result that was read, as an answer.
+fn answer(value: f64) -> Operation
+    ensures { λ r. ⌜ answerOf r ≡ cond (model.isFinite value) (model.number value) model.overflow ⌝ }
+{
+    if is_finite(value) {
+        Operation::Number(value)
+    } else {
+        Operation::Overflow
+    }
+}
+
+pub fn product(a: f64, b: f64) -> Operation
+    ensures { λ r. ⌜ answerOf r ≡ model.product a b ⌝ }
+{
+    answer(read(a * b))
+}
+
+// Only -0 - +0 is -0, so reading -b spares the result: a chain of differences waits for one addition each.
+pub fn difference(a: f64, b: f64) -> Operation
+    ensures { λ r. ⌜ answerOf r ≡ model.difference a b ⌝ }
+{
+    answer(a + read(-b))
+}
+
+pub fn quotient(a: f64, b: f64) -> Operation
+    ensures { λ r. ⌜ answerOf r ≡ model.quotient a b ⌝ }
+{
+    if is_zero(b) {
+        Operation::ZeroDivisor
+    } else {
+        answer(read(a / b))
+    }
+}
+
+// A product and a difference with it, settled at once: no difference with an infinity or a NaN is a
+// number, and a zero of either sign leaves the same.
+pub fn less(acc: f64, a: f64, b: f64) -> Operation
+    ensures { λ r. ⌜ answerOf r ≡ formula.less acc a b ⌝ }
+{
+    difference(acc, a * b)
+}
