@@ -9,3 +9,5 @@ pub mod Bytes
 pub mod Plans
 pub mod Beside
 pub mod Links
+pub mod Tally
+pub mod Machine
