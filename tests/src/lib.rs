@@ -1,5 +1,6 @@
 //! The exported functions as safe Rust, and an independent reading of document 01 to compare them with.
 
+pub mod random;
 pub mod reading;
 
 mod exported {

@@ -4,11 +4,11 @@ use crout_tests::{label, place, reading};
 
 /// All places of an order: the label by (2.8), by its index in dense order, and back.
 fn compare_order(n: u32) {
-    let places = reading::places(n);
+    let places = reading::labels::places(n);
     assert_eq!(places.len() as u32, n * n);
     for (k, &(i, j)) in (1..).zip(&places) {
         assert_eq!(label(n, i, j), k, "label of ({i}, {j}), order {n}");
-        assert_eq!(reading::label(n, i, j), k, "(2.8) at ({i}, {j}), order {n}");
+        assert_eq!(reading::labels::label(n, i, j), k, "(2.8) at ({i}, {j}), order {n}");
         assert_eq!(place(n, k), 1024 * i + j, "place of {k}, order {n}");
     }
 }
@@ -42,7 +42,7 @@ fn labels_of_numbers_out_of_range() {
     for &n in &orders {
         for &i in &around(&[n, 600]) {
             for &j in &around(&[n, 600]) {
-                let expected = reading::label(n, i, j);
+                let expected = reading::labels::label(n, i, j);
                 assert_eq!(label(n, i, j), expected, "label of ({i}, {j}), order {n}");
                 refused += u32::from(expected == 0);
             }
@@ -55,7 +55,7 @@ fn labels_of_numbers_out_of_range() {
 fn places_of_numbers_out_of_range() {
     for n in around(&[6, 600]) {
         let labels = if (1..=600).contains(&n) { n * n } else { 0 };
-        let places = reading::places(if labels == 0 { 0 } else { n });
+        let places = reading::labels::places(if labels == 0 { 0 } else { n });
         for k in around(&[labels, 600 * 600, n]) {
             let expected = match places.get((k as usize).wrapping_sub(1)) {
                 Some(&(i, j)) => 1024 * i + j,

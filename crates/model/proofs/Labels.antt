@@ -1,9 +1,10 @@
--- Labels number the places of a table of order N, in dense order, as 1, 2, .., N²; so label and place undo each other.
-use Prim.Native.Nat.{ℕ, zero, suc, _+_, _-_, _*_, _≤_, _<_}
-use native.Mathlib.Nat.{not-suc-le-zero, zero-mul}
+-- Labels number the places of a table of order N, in dense order, as 1, 2, .., N²; so label and place undo each other, and an earlier batch has smaller labels.
+use Prim.Native.Nat.{ℕ, zero, suc, _+_, _-_, _*_, _≤_, _<_, min}
+use native.Mathlib.Nat.{not-suc-le-zero, zero-mul, le-refl, le-suc-iff}
 use native.Mathlib.Decide.{decLe}
 use native.Mathlib.Omega.{arith}
 use mathlib.Core.Path.{_≡_, refl, sym, ap, _∙_}
+use mathlib.Core.Logic.{⊎-elim}
 use mathlib.Core.List.{List, _++_, map, append-assoc, List·Memᴰ, Memᴰ·append-left, Memᴰ·append-right}
 use lib.ListN.{length, length-map}
 use borrow.Author.Tests.{le-leb, lt-leb}
@@ -147,3 +148,38 @@ place-of-label N i j inside = numbered-getD (places-numbered N) (places-member N
 pub label-of-place : (N k : ℕ) → 1 ≤ k → k ≤ N * N → label N (place N k .0) (place N k .1) ≡ k
 unfolding place
 label-of-place N k low high = numbered-at (places-numbered N) (k - 1) (0, 0) (rw places-length (omega arith)) ∙ omega arith
+
+-- The order of labels goes by batches: batch m, from its pivot on, comes before the pivot of batch m + 1. Place (i, j) is of batch min i j.
+pub label-in-column : (N i m : ℕ) → m ≤ i → label N i m ≡ label N m m + (i - m)
+label-in-column N i m h = rw (label-lower N i m h, label-lower N m m (omega arith)) (omega arith)
+
+pub label-in-row : (N m j : ℕ) → 1 ≤ m → m ≤ N → m < j → label N m j ≡ label N m m + (N - m) + (j - m)
+label-in-row N m j low high h =
+    let along : label N m j + suc m ≡ label N m (suc m) + j = rw (label-upper N m j h, label-upper N m (suc m) (omega arith)) (omega arith) in
+    omega (arith, label-turn N m low high, label-in-column N (suc N) m (omega arith))
+
+next-pivot : (N m : ℕ) → 1 ≤ m → m ≤ N → label N (suc m) (suc m) ≡ label N m m + (N - m) + (suc N - m)
+next-pivot N m low high = label-next N m low high ∙ label-in-row N m (suc N) low high (omega arith)
+
+pivot-rises : (N m n : ℕ) → 1 ≤ m → m ≤ n → n ≤ suc N → label N m m ≤ label N n n
+pivot-rises N m zero low h high = absurd (omega arith)
+pivot-rises N m (suc n) low h high =
+    ⊎-elim (λ g. omega (arith, pivot-rises N m n low g (omega arith), next-pivot N n (omega arith) (omega arith))) (λ e. rw e (le-refl _)) (le-suc-iff .0 h)
+
+-- a label lies between its batch's pivot and the next
+label-batch : (N i j : ℕ) → Inside N i j → (label N (min i j) (min i j) ≤ label N i j) × (label N i j < label N (suc (min i j)) (suc (min i j)))
+label-batch N i j inside = elim (decLe j i) [ yes h ↦ lower h | no h ↦ upper (omega arith) ]
+  where
+    Between : ℕ → Type 0
+    Between m = (label N m m ≤ label N i j) × (label N i j < label N (suc m) (suc m))
+
+    lower : j ≤ i → Between (min i j)
+    lower h = let e : min i j ≡ j = omega arith in rw e (omega (arith, label-in-column N i j h, next-pivot N j (omega arith) (omega arith)))
+
+    upper : i < j → Between (min i j)
+    upper h = let e : min i j ≡ i = omega arith in rw e (omega (arith, label-in-row N i j (omega arith) (omega arith) h, next-pivot N i (omega arith) (omega arith)))
+
+-- the places of an earlier batch have smaller labels
+pub label-earlier : (N a b i j : ℕ) → Inside N a b → Inside N i j → min a b < min i j → label N a b < label N i j
+label-earlier N a b i j first second h =
+    omega (arith, label-batch N a b first, label-batch N i j second, pivot-rises N (suc (min a b)) (min i j) (omega arith) h (omega arith))

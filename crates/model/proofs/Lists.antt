@@ -5,9 +5,9 @@ use native.Mathlib.Omega.{arith}
 use mathlib.Core.Path.{_≡_, refl, sym, ap, ap₂, subst, _∙_}
 use mathlib.Core.Logic.{⊎-elim}
 use mathlib.Core.Bool.{Bool, true, false, cond}
-use mathlib.Core.List.{List, [], _∷_, _++_, map, List·Memᴰ, List·Memᴰ·head, List·Memᴰ·tail, List·Memᴰ·not-nil, List·Memᴰ·append-cases, Memᴰ·cast, Memᴰ·append-left, Memᴰ·append-right}
+use mathlib.Core.List.{List, [], _∷_, _++_, map, List·Memᴰ, List·Memᴰ·head, List·Memᴰ·tail, List·Memᴰ·not-nil, List·Memᴰ·append-cases, Memᴰ·cast, Memᴰ·append-left, Memᴰ·append-right, Memᴰ·of-map}
 use lib.ListN.{length, getD, List·getD-map}
-use Rattle.model.specs.Lists.{rising, joined, kept}
+use Rattle.model.specs.Lists.{rising, falling, joined, kept}
 
 module _ {A : Type 0} where
   -- rows of consecutive numbers
@@ -85,11 +85,21 @@ module _ {A : Type 0} where
   abbrev pub Each : (A → Type 0) → List A → Type 0
   Each P l = (p : A) → List·Memᴰ p l → P p
 
+  pub cons-each : (P : A → Type 0) {x : A} {xs : List A} → P x → Each P xs → Each P (x ∷ xs)
+  cons-each P first rest p (List·Memᴰ·head e) = subst P (sym e) first
+  cons-each P first rest p (List·Memᴰ·tail m) = rest p m
+
   pub rising-each : (P : A → Type 0) (f : ℕ → A) (a n : ℕ) → ((k : ℕ) → a ≤ k → k < a + n → P (f k)) → Each P (rising f a n)
   unfolding rising
   rising-each P f a zero each p m = absurd (List·Memᴰ·not-nil m)
   rising-each P f a (suc n) each p (List·Memᴰ·head e) = subst P (sym e) (each a (omega arith) (omega arith))
   rising-each P f a (suc n) each p (List·Memᴰ·tail m) = rising-each P f (suc a) n (λ k low high. each k (omega arith) (omega arith)) p m
+
+  pub falling-each : (P : A → Type 0) (f : ℕ → A) (a n : ℕ) → ((k : ℕ) → k ≤ a → a < k + n → P (f k)) → Each P (falling f a n)
+  unfolding falling
+  falling-each P f a zero each p m = absurd (List·Memᴰ·not-nil m)
+  falling-each P f a (suc n) each p (List·Memᴰ·head e) = subst P (sym e) (each a (omega arith) (omega arith))
+  falling-each P f a (suc n) each p (List·Memᴰ·tail m) = falling-each P f (a - 1) n (λ k high low. each k (omega arith) (omega arith)) p m
 
   pub append-each : (P : A → Type 0) (xs ys : List A) → Each P xs → Each P ys → Each P (xs ++ ys)
   append-each P xs ys first second p m = ⊎-elim (first p) (second p) (List·Memᴰ·append-cases xs m)
@@ -109,6 +119,9 @@ module _ {A : Type 0} where
       step true e rest (List·Memᴰ·tail n) = later (rest n)
       step false e rest n = later (rest n)
 
+  pub kept-where : (P : A → Type 0) (t : A → Bool) (l : List A) → Each (λ p. t p ≡ true → P p) l → Each P (kept t l)
+  kept-where P t l each p m = let k = kept-each t l p m in each p (k .0) (k .1)
+
   -- where a member stands, counted from 0
   pub record Stands (p : A) (l : List A) : Type 0 where
     pub index : ℕ
@@ -120,6 +133,9 @@ module _ {A : Type 0} where
   stands (List·Memᴰ·tail m) = let s = stands m in record { index = suc (s .index); inside = omega arith; there = s .there }
 
 module _ {A : Type 0} where
+  pub map-each : {B : Type 0} (P : B → Type 0) (f : A → B) (l : List A) → Each (λ x. P (f x)) l → Each P (map f l)
+  map-each P f l each p m = let k = Memᴰ·of-map f l m in subst P (k .2) (each (k .0) (k .1))
+
   pub joined-each : (P : A → Type 0) (xs : List (List A)) → Each (Each P) xs → Each P (joined xs)
   unfolding joined
   joined-each P [] each p m = absurd (List·Memᴰ·not-nil m)

@@ -1,13 +1,13 @@
 -- The record machine works formulas out: the run of the records of a row of formulas ends as the row does, and counts its products and quotients.
-use Prim.Native.Nat.{ℕ, zero, suc, _+_, _-_}
+use Prim.Native.Nat.{ℕ, zero, suc, _+_}
 use native.Mathlib.Omega.{arith}
-use mathlib.Core.Path.{_≡_, refl, sym, ap, ap₂, subst, _∙_}
+use mathlib.Core.Path.{_≡_, refl, ap, ap₂, _∙_}
 use mathlib.Core.Bool.{Bool, true, false, cond}
-use mathlib.Core.List.{List, [], _∷_, _++_, map, append-assoc, List·Memᴰ·head, List·Memᴰ·tail, List·Memᴰ·not-nil}
+use mathlib.Core.List.{List, [], _∷_, _++_, map, append-assoc, List·Memᴰ·head, List·Memᴰ·tail}
 use lib.Dec.{eqb, ltb, leb·zero, leb·suc-suc, eqb·suc-zero}
 use lib.ListN.{length}
 use lib.Ieee.{Float}
-use Rattle.model.specs.Lists.{falling, joined, kept, total}
+use Rattle.model.specs.Lists.{joined, kept, total}
 use Rattle.model.specs.Arith.{Answer, number, overflow, zeroDivisor, quotient, isZero, next}
 use Rattle.model.specs.Fill.{Plan}
 use Rattle.model.specs.Formula.{Table, C, Y, X, Tables, Formula, numberOf, entry, closed, starting, less, lessAll, over, tested, value, Ended, solved, refused, worked}
@@ -16,7 +16,7 @@ use Rattle.model.specs.Program.{Record, rec, opening, recordsOf}
 use Rattle.model.specs.Check.{kindOf, subtracts}
 use Rattle.model.specs.Run.{State, Stepped, going, stop, opened, closing, settledStep, step, follow}
 use Rattle.model.specs.Agreement.{Seen, whole, ended, seen}
-use Rattle.model.proofs.Lists.{Each, rising-each, append-each, joined-each}
+use Rattle.model.proofs.Lists.{Each, cons-each, rising-each, falling-each, append-each, joined-each, map-each}
 use Rattle.model.proofs.Links.{linksFrom}
 use Rattle.model.proofs.Tally.{productsOf, quotientsOf, productsOf-cons, quotientsOf-cons}
 
@@ -165,22 +165,8 @@ pub machine : (A B : List Float) (fs : List Formula) → Each Started fs → (z 
     → seen (follow A B z (linksFrom k (joined (map recordsOf fs)))) ≡ shown (z .products + productsOf fs) (z .quotients + quotientsOf fs) (worked A B (z .tables) fs)
 machine A B fs started z k = seen-follow A B z k (joined (map recordsOf fs)) ∙ run-formulas A B fs started z _ _ refl refl
 
-module _ {A : Type 0} (P : A → Type 0) where
-  cons-each : {x : A} {xs : List A} → P x → Each P xs → Each P (x ∷ xs)
-  cons-each first rest p (List·Memᴰ·head e) = subst P (sym e) first
-  cons-each first rest p (List·Memᴰ·tail m) = rest p m
-
-  map-each : {B : Type 0} (g : B → A) (l : List B) → ((x : B) → P (g x)) → Each P (map g l)
-  map-each g [] each = λ p m. absurd (List·Memᴰ·not-nil m)
-  map-each g (x ∷ xs) each = cons-each (each x) (map-each g xs each)
-
-  falling-each : (f : ℕ → A) (a n : ℕ) → ((k : ℕ) → P (f k)) → Each P (falling f a n)
-  unfolding falling
-  falling-each f a zero each = λ p m. absurd (List·Memᴰ·not-nil m)
-  falling-each f a (suc n) each = cons-each (each a) (falling-each f (a - 1) n each)
-
 -- what `machine` asks, for the formulas that the compiler keeps
 pub reduced-started : (N : ℕ) (L : Plan) → Each Started (reducedFormulas N L)
 unfolding reducedFormulas formulas batch lower forward upper backward Started
 reduced-started N L =
-    search (append-each Started, joined-each Started, rising-each (Each Started), falling-each Started, map-each Started, cons-each Started, tt) depth 7
+    search (append-each Started, joined-each Started, rising-each (Each Started), falling-each Started, map-each {A = ℕ} Started, cons-each Started, tt) depth 7

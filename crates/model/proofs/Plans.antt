@@ -6,7 +6,7 @@ use mathlib.Core.List.{[], _∷_}
 use mathlib.Core.Logic.{⊎-elim}
 use native.Mathlib.Nat.{eq-or-lt-of-le}
 use native.Mathlib.Omega.{arith}
-use borrow.Author.Tests.{leb-true, ltb-true}
+use borrow.Author.Tests.{leb-true, ltb-true, le-leb, lt-ltb}
 use lib.Dec.{eqb, leb, ltb}
 use lib.ListN.{length}
 use Rattle.model.specs.Label.{within}
@@ -19,6 +19,9 @@ within-range k n e = step (ltb 0 k) refl e
     step : (b : Bool) → ltb 0 k ≡ b → (b && leb k n) ≡ true → (1 ≤ k) × (k ≤ n)
     step true p q = (ltb-true 0 k p, leb-true k n q)
     step false p q = let z : _≡_ {A = ℕ} 0 1 = cc in absurd (omega arith)
+
+pub within-true : (k n : ℕ) → 1 ≤ k → k ≤ n → within k n ≡ true
+within-true k n low high = rw (lt-ltb 0 k low, le-leb k n high)
 
 -- ---- positions
 

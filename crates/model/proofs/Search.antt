@@ -10,7 +10,7 @@ use native.Mathlib.Omega.{arith}
 use borrow.Author.Tests.{leb-true, leb-false}
 use lib.Dec.{leb}
 use lib.ListN.{length, getD, take, length-append}
-use lib.Seq.{take-suc, take-nil}
+use lib.Seq.{take-suc, take-nil, take-add}
 use Rattle.model.specs.Lists.{rising, some, count, kept}
 use Rattle.model.proofs.Lists.{Each, Numbered, kept-append}
 
@@ -73,6 +73,12 @@ module _ {A : Type 0} where
       → length (kept t (take (suc k) l)) ≡ suc (length (kept t (take k l)))
   unfolding kept
   kept-next t l k d h e = rw (take-suc l k d, kept-append, e, length-append) (omega arith)
+
+  -- among more elements as many pass or more
+  pub kept-rises : (t : A → Bool) (l : List A) (m n : ℕ) → m ≤ n → length (kept t (take m l)) ≤ length (kept t (take n l))
+  kept-rises t l m n h =
+      let d : n ≡ m + (n - m) = omega arith in
+      rw (d, take-add m (n - m) l, kept-append, length-append) (omega arith)
 
   up-to : (g : A → ℕ) (c : ℕ) (l : List A) (a : ℕ) → map g l ≡ rising (λ k. k) a (length l) → kept (λ x. leb (g x) c) l ≡ take (suc c - a) l
   unfolding kept rising

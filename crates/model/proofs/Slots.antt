@@ -1,16 +1,17 @@
--- Slots: the held places of a plan have the slots 1, 2, .., s in dense order.
-use Prim.Native.Nat.{ℕ, suc, _-_, _*_, _≤_, _<_}
-use mathlib.Core.Path.{_≡_, refl, ap}
+-- Slots: the held places of a plan have the slots 1, 2, .., s in dense order; a slot is closed once its label is done.
+use Prim.Native.Nat.{ℕ, zero, suc, _+_, _-_, _*_, _≤_, _<_}
+use mathlib.Core.Path.{_≡_, refl, ap, _∙_}
 use mathlib.Core.Bool.{Bool, true, false, cond}
-use mathlib.Core.List.{map, List·Memᴰ}
+use mathlib.Core.List.{[], _∷_, map, List·Memᴰ}
 use native.Mathlib.Omega.{arith}
-use lib.ListN.{length, getD, take}
+use lib.ListN.{length, getD, take, length-append}
+use lib.Seq.{take-suc, take-all}
 use Rattle.model.specs.Lists.{rising, kept}
 use Rattle.model.specs.Label.{Place, label, places}
 use Rattle.model.specs.Fill.{Plan, held, heldPlaces, slots, slot}
-use Rattle.model.proofs.Lists.{Numbered, numbered-at, numbered-range, numbered-getD, numbered-injective, kept-member}
-use Rattle.model.proofs.Labels.{Inside, places-length, places-numbered, places-member}
-use Rattle.model.proofs.Search.{kept-at-most, kept-swap, kept-next, kept-up-to, kept-numbered}
+use Rattle.model.proofs.Lists.{Numbered, numbered-at, numbered-range, numbered-getD, numbered-injective, kept-member, kept-append}
+use Rattle.model.proofs.Labels.{Inside, places-length, places-numbered, places-member, label-range, label-earlier}
+use Rattle.model.proofs.Search.{kept-at-most, kept-swap, kept-rises, kept-next, kept-up-to, kept-numbered}
 
 module _ (N : ℕ) (L : Plan) where
   abbrev pub heldAt : Place → Bool
@@ -71,3 +72,56 @@ module _ (N : ℕ) (L : Plan) where
   pub slots-in-order : map (λ p. slot N L (p .0) (p .1)) (heldPlaces N L) ≡ rising (λ k. k) 1 (slots N L)
   unfolding slots
   slots-in-order = slots-numbered .numbers
+
+  -- the held places among the first n: that many entries of the compressed C are closed once n places are done
+  abbrev pub closedSlots : ℕ → ℕ
+  closedSlots n = length (kept heldAt (take n (places N)))
+
+  pub closed-all : closedSlots (N * N) ≡ slots N L
+  unfolding slots heldPlaces
+  closed-all = rw (take-all (N * N) (places N) (omega (arith, places-length N)))
+
+  -- the place of label n + 1 is one more if it is held
+  pub closed-next : (n i j : ℕ) → Inside N i j → suc n ≡ label N i j → closedSlots (suc n) ≡ cond (held N L i j) (suc (closedSlots n)) (closedSlots n)
+  unfolding kept
+  closed-next n i j inside e = rw (take-suc (places N) n (i, j) (omega (arith, label-range N i j inside, places-length N)), there, kept-append, length-append) (step (held N L i j))
+    where
+      there : getD (places N) n (i, j) ≡ (i, j)
+      there = let k : n ≡ label N i j - 1 = omega arith in rw k (numbered-getD (places-numbered N) (places-member N i j inside) (i, j))
+
+      step : (b : Bool) → closedSlots n + length {A = Place} (cond b ((i, j) ∷ []) []) ≡ cond b (suc (closedSlots n)) (closedSlots n)
+      step true = omega arith
+      step false = omega arith
+
+  -- a held place's slot counts the held places up to its own label
+  slot-counts : (i j : ℕ) → held N L i j ≡ true → slot N L i j ≡ closedSlots (label N i j)
+  slot-counts i j e = rw (slot-is i j, e)
+
+  -- so it is closed once its label is done, and slots rise with the labels
+  pub slot-closed : (i j n : ℕ) → Inside N i j → held N L i j ≡ true → label N i j ≤ n → (1 ≤ slot N L i j) × (slot N L i j ≤ closedSlots n)
+  slot-closed i j n inside e h = omega (arith, slot-range i j inside e, slot-counts i j e, kept-rises heldAt (places N) (label N i j) n h)
+
+  pub slot-new : (n i j : ℕ) → Inside N i j → suc n ≡ label N i j → held N L i j ≡ true → slot N L i j ≡ suc (closedSlots n)
+  slot-new n i j inside k e = slot-counts i j e ∙ rw (← k, closed-next n i j inside k, e)
+
+  pub slot-rises : (i j i′ j′ : ℕ) → Inside N i j → Inside N i′ j′ → held N L i j ≡ true → held N L i′ j′ ≡ true
+      → label N i j < label N i′ j′ → slot N L i j < slot N L i′ j′
+  slot-rises i j i′ j′ inside inside′ e e′ h =
+      omega (arith, slot-closed i j (label N i′ j′ - 1) inside e (omega arith), slot-new (label N i′ j′ - 1) i′ j′ inside′ (omega arith) e′)
+
+  -- where every pivot is held there are at least N slots
+  module _ (pivots : (m : ℕ) → 1 ≤ m → m ≤ N → held N L m m ≡ true) where
+    pivot-slot : (m : ℕ) → suc m ≤ N → suc m ≤ slot N L (suc m) (suc m)
+    pivot-slot zero h = slot-range 1 1 (omega arith) (pivots 1 (omega arith) h) .0
+    pivot-slot (suc m) h =
+        let earlier = label-earlier N (suc m) (suc m) (suc (suc m)) (suc (suc m)) (omega arith) (omega arith) (omega arith) in
+        let this = pivots (suc m) (omega arith) (omega arith) in
+        let next = pivots (suc (suc m)) (omega arith) h in
+        omega (arith, pivot-slot m (omega arith), slot-rises (suc m) (suc m) (suc (suc m)) (suc (suc m)) (omega arith) (omega arith) this next earlier)
+
+    slots-reach : (n : ℕ) → n ≤ N → n ≤ slots N L
+    slots-reach zero h = omega arith
+    slots-reach (suc n) h = omega (arith, pivot-slot n h, slot-range (suc n) (suc n) (omega arith) (pivots (suc n) (omega arith) h))
+
+    pub slots-at-least : N ≤ slots N L
+    slots-at-least = slots-reach N (omega arith)

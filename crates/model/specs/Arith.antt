@@ -1,5 +1,5 @@
 -- One float operation: document 01, "Dense Crout" ("rounded once", "a zero result becomes +0", 16 and 17) and "Running". Definitions only.
-use Prim.Native.Nat.{ℕ, zero, suc}
+use Prim.Native.Nat.{zero, suc}
 use mathlib.Core.Bool.{Bool, true, false, cond}
 use lib.IntN.{pos}
 use lib.Ieee as Ieee

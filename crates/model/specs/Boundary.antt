@@ -1,14 +1,14 @@
 -- The three calls on numbers and bytes: document 01, "The C boundary". Definitions only.
 use Prim.Native.Nat.{ℕ, _+_, _*_, _^_}
-use mathlib.Core.Bool.{true, false, _&&_}
+use mathlib.Core.Bool.{true, false}
 use mathlib.Core.List.{List}
-use Rattle.model.specs.Label.{isOrder, within, label, Sought, at, outside, sought}
+use Rattle.model.specs.Label.{isPlace, label, Sought, at, outside, sought}
 use Rattle.model.specs.Check.{Verdict, fine, refusal}
 use Rattle.model.specs.File.{checkFile}
 
 -- "label of (N, i, j), 0 if any is out of range"
 unfoldable pub labelNumber : ℕ → ℕ → ℕ → ℕ
-labelNumber N i j = elim (isOrder N && (within i N && within j N)) [ true ↦ label N i j | false ↦ 0 ]
+labelNumber N i j = elim (isPlace N i j) [ true ↦ label N i j | false ↦ 0 ]
 
 -- "place of (N, label) as 1,024 × i + j, 0 if refused"
 abbrev pub soughtNumber : Sought → ℕ

@@ -1,4 +1,4 @@
-//! Document 01 read once more, in plain Rust, by other means than the proved code.
+//! "Places and labels".
 
 /// Every place of a table of order n in dense order: for m = 1..n column m from the diagonal down, then row m right of it.
 /// The place at index K - 1 has label K.

@@ -1,0 +1,95 @@
+// Labels of places and places of labels: document 01, "Places and labels".
+ghost use mathlib.Core.Path.{_≡_};
+ghost use mathlib.Core.Bool.{cond};
+ghost use Prim.Native.Nat.{_*_, _≤_, _<_};
+ghost use Rattle.model.specs.Label.{isLabel, sought, at};
+ghost use Rattle.model.specs.Label.{within as Label·within};
+ghost use Rattle.model.specs.Label.{label as Label·label};
+ghost use Rattle.model.specs.Label.{place as Label·place};
+ghost use Rattle.model.specs.Boundary.{labelNumber};
+ghost use Rattle.labels.specs.Located.{soughtOf, placed};
+
+// The place of a label, its row and its column, or that there is none.
+pub enum Located {
+    At(u32, u32),
+    Outside,
+}
+
+// The label of (i, j) in a table of order n; 0 if any of the three is out of range.
+pub fn label(n: u32, i: u32, j: u32) -> u32
+    ensures { λ r. ⌜ r ≡ labelNumber n i j ⌝ }
+{
+    if within(n, 600) && within(i, n) && within(j, n) {
+        label_within(n, i, j)
+    } else {
+        0
+    }
+}
+
+// Whether k lies in 1..n.
+fn within(k: u32, n: u32) -> bool
+    ensures { λ r. ⌜ r ≡ Label·within k n ⌝ }
+{
+    0 < k && k <= n
+}
+
+// (2.8), for numbers in range.
+fn label_within(n: u32, i: u32, j: u32) -> u32
+    requires { ⌜ (n ≤ 600) × ((0 < i) × (i ≤ n)) × ((0 < j) × (j ≤ n)) ⌝ }
+    ensures { λ r. ⌜ r ≡ Label·label n i j ⌝ }
+{
+    if j <= i {
+        (j - 1) * (2 * n - j) + i
+    } else {
+        i * (2 * n - i) - n + j
+    }
+}
+
+// The place of label k in a table of order n.
+pub fn place(n: u32, k: u32) -> Located
+    ensures { λ r. ⌜ soughtOf r ≡ sought n k ⌝ }
+{
+    if within(n, 600) && within(k, n * n) {
+        place_within(n, k)
+    } else {
+        Located::Outside
+    }
+}
+
+// The place of a label in range: the batch m that holds it, and there the column or the row.
+fn place_within(n: u32, k: u32) -> Located
+    requires { ⌜ ((0 < n) × (n ≤ 600)) × ((0 < k) × (k ≤ n * n)) ⌝ }
+    ensures { λ r. ⌜ soughtOf r ≡ at (Label·place n k) ⌝ }
+{
+    let mut m = 1;
+    let mut left = k;
+    let mut size = 2 * n - 1;
+    while size < left {
+        left -= size;
+        size -= 2;
+        m += 1;
+    }
+    let rows = n - m + 1;
+    if left <= rows {
+        Located::At(m + left - 1, m)
+    } else {
+        Located::At(m, m + left - rows)
+    }
+}
+
+// The label of a label's place: the label again, 0 where it is out of range.
+pub fn label_again(n: u32, k: u32) -> u32
+    ensures { λ r. ⌜ r ≡ cond (isLabel n k) k 0 ⌝ }
+{
+    match place(n, k) {
+        Located::At(i, j) => label(n, i, j),
+        Located::Outside => 0,
+    }
+}
+
+// The place of a place's label: the place again, outside where it is out of range.
+pub fn place_again(n: u32, i: u32, j: u32) -> Located
+    ensures { λ r. ⌜ soughtOf r ≡ placed n i j ⌝ }
+{
+    place(n, label(n, i, j))
+}

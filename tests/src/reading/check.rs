@@ -1,0 +1,94 @@
+//! Checks 7 to 13: a program's words, followed along its chain.
+
+use super::Verdict;
+
+#[derive(Default)]
+struct Progress {
+    /// 0 for none, else the open table: 1 for C, 2 for Y, 3 for X.
+    open: u32,
+    c: u32,
+    y: u32,
+    x: u32,
+}
+
+/// Record 0's N, n and s.
+struct Head {
+    n: u32,
+    plan: u32,
+    slots: u32,
+}
+
+impl Progress {
+    /// 10 to 12 for one record.
+    fn step(&mut self, head: &Head, [kind, p, q]: [u32; 3]) -> Result<(), u32> {
+        let unused = match kind {
+            1 | 4..=6 => false,
+            2 | 3 | 7 => q != 0,
+            8 | 9 => p != 0 || q != 0,
+            _ => true,
+        };
+        if unused {
+            return Err(10);
+        }
+        let misplaced = match kind {
+            1..=3 => self.open != 0,
+            4..=6 => self.open != kind - 3,
+            9 => self.open != 1,
+            _ => self.open == 0,
+        };
+        if misplaced {
+            return Err(11);
+        }
+        let closed_c = |k: u32| (1..=self.c).contains(&k);
+        let right = match kind {
+            1 => p <= head.plan && q == self.c + 1 && q <= head.slots,
+            2 => p == self.y + 1 && p <= head.n,
+            3 => p >= 1 && u64::from(p) + u64::from(self.x) == u64::from(head.n) && p <= self.y,
+            4 => closed_c(p) && closed_c(q),
+            5 => closed_c(p) && (1..=self.y).contains(&q),
+            6 => closed_c(p) && q > head.n - self.x && q <= head.n,
+            7 => closed_c(p),
+            _ => true,
+        };
+        if !right {
+            return Err(12);
+        }
+        match (kind, self.open) {
+            (1..=3, _) => self.open = kind,
+            (8 | 9, open) => {
+                *[&mut self.c, &mut self.y, &mut self.x][open as usize - 1] += 1;
+                self.open = 0;
+            }
+            _ => {}
+        }
+        Ok(())
+    }
+}
+
+pub fn check(words: &[u32]) -> Verdict {
+    let records = words.len() / 4;
+    if words.is_empty() || words.len() % 4 != 0 || records > 100_000_000 {
+        return Err((7, 0));
+    }
+    let head = Head { n: words[0], plan: words[1], slots: words[2] };
+    let square = u64::from(head.n) * u64::from(head.n);
+    if !(1..=600).contains(&head.n) || u64::from(head.plan) > square || head.slots < head.n || u64::from(head.slots) > square {
+        return Err((8, 0));
+    }
+    let mut progress = Progress::default();
+    let mut at = 0;
+    loop {
+        let next = words[4 * at + 3] as usize;
+        if next == 0 {
+            break;
+        }
+        if next <= at || next >= records {
+            return Err((9, at as u64));
+        }
+        at = next;
+        let record = [words[4 * at], words[4 * at + 1], words[4 * at + 2]];
+        progress.step(&head, record).map_err(|number| (number, at as u64))?;
+    }
+    let complete = progress.open == 0 && progress.c == head.slots && progress.y == head.n && progress.x == head.n;
+    if complete { Ok(()) } else { Err((13, 0)) }
+}

@@ -1,0 +1,82 @@
+//! The run of a program: 7 to 13, 14, 15, then its records, 16 and 17.
+
+use super::check::check;
+use super::dense::{difference, product, quotient, read};
+
+#[derive(Clone, Copy, Debug, PartialEq, Eq)]
+pub enum Outcome {
+    Solved { products: u64, quotients: u64 },
+    /// 16 or 17, the record, and the table (1 for C, 2 for Y, 3 for X) and number of the target.
+    Stopped { number: u32, record: u64, table: u64, target: u64 },
+    Refused { number: u32, detail: u64 },
+}
+
+fn not_finite(values: &[f64]) -> Option<u64> {
+    values.iter().position(|v| !v.is_finite()).map(|at| at as u64 + 1)
+}
+
+/// The open target: its table, its number and the running number.
+#[derive(Default)]
+struct Open {
+    table: u32,
+    target: usize,
+    running: f64,
+}
+
+/// The record that refused, or the counts.
+type Ran = Result<(u64, u64), (u32, u64, u64, u64)>;
+
+fn records(words: &[u32], a: &[f64], b: &[f64], c: &mut [f64], y: &mut [f64], x: &mut [f64]) -> Ran {
+    let (mut products, mut quotients) = (0, 0);
+    let mut open = Open::default();
+    let mut at = words[3] as usize;
+    while at != 0 {
+        let [kind, p, q, next] = words[4 * at..4 * at + 4] else { unreachable!("four words") };
+        let (p, q) = (p as usize, q as usize);
+        let stopped = |number| (number, at as u64, u64::from(open.table), open.target as u64);
+        match kind {
+            1 => open = Open { table: 1, target: q, running: if p == 0 { 0.0 } else { read(a[p - 1]) } },
+            2 => open = Open { table: 2, target: p, running: read(b[p - 1]) },
+            3 => open = Open { table: 3, target: p, running: y[p - 1] },
+            4..=6 => {
+                let factor = [&*c, &*y, &*x][kind as usize - 4][q - 1];
+                open.running = product(c[p - 1], factor).and_then(|v| difference(open.running, v)).map_err(stopped)?;
+                products += 1;
+            }
+            7 => {
+                open.running = quotient(open.running, c[p - 1]).map_err(stopped)?;
+                quotients += 1;
+            }
+            _ => {
+                if kind == 9 && open.running == 0.0 {
+                    return Err(stopped(17));
+                }
+                [&mut *c, &mut *y, &mut *x][open.table as usize - 1][open.target - 1] = open.running;
+            }
+        }
+        at = next as usize;
+    }
+    Ok((products, quotients))
+}
+
+pub fn run(words: &[u32], a: &[f64], b: &[f64], c: &mut [f64], y: &mut [f64], x: &mut [f64]) -> Outcome {
+    if let Err((number, detail)) = check(words) {
+        return Outcome::Refused { number, detail };
+    }
+    let [n, plan, slots] = [words[0] as usize, words[1] as usize, words[2] as usize];
+    if [a.len(), b.len(), c.len(), y.len(), x.len()] != [plan, n, slots, n, n] {
+        return Outcome::Refused { number: 14, detail: 0 };
+    }
+    if let Some(detail) = not_finite(a).or_else(|| not_finite(b)) {
+        return Outcome::Refused { number: 15, detail };
+    }
+    match records(words, a, b, c, y, x) {
+        Ok((products, quotients)) => Outcome::Solved { products, quotients },
+        Err((number, record, table, target)) => {
+            c.fill(0.0);
+            y.fill(0.0);
+            x.fill(0.0);
+            Outcome::Stopped { number, record, table, target }
+        }
+    }
+}
