@@ -7,12 +7,17 @@ pub mod Labels
 pub mod Fill
 pub mod Slots
 pub mod Plans
+pub mod Runs
 pub mod Bytes
 pub mod Beside
 pub mod Links
 pub mod Tally
 pub mod Machine
+pub mod Picked
+pub mod Values
+pub mod Reduction
 pub mod Counts
 pub mod Bounds
 pub mod Chain
 pub mod Checked
+pub mod Agreement

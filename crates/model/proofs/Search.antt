@@ -47,6 +47,11 @@ module _ {A : Type 0} where
   kept-same t u [] e = refl
   kept-same t u (x ∷ l) e = rw (kept-same t u l (λ y m. e y (List·Memᴰ·tail m)), e x (List·Memᴰ·head refl))
 
+  pub kept-none : (t : A → Bool) (l : List A) → Each (λ x. t x ≡ false) l → kept t l ≡ []
+  unfolding kept
+  kept-none t [] e = refl
+  kept-none t (x ∷ l) e = rw (e x (List·Memᴰ·head refl)) (kept-none t l (λ y m. e y (List·Memᴰ·tail m)))
+
   pub kept-at-most : (t : A → Bool) (l : List A) → length (kept t l) ≤ length l
   unfolding kept
   kept-at-most t [] = omega arith

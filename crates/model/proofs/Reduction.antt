@@ -1,0 +1,160 @@
+-- The reduction: the reduced formulas worked out end as dense Crout does, with C compressed and labels as slots; and where a pivot is missing dense Crout never ends solved.
+use Prim.Native.Nat.{ℕ, suc, _*_}
+use native.Mathlib.Omega.{arith}
+use mathlib.Core.Path.{_≡_, refl, sym, ap, ap₂, subst, _∙_}
+use mathlib.Core.Bool.{Bool, true, false, cond, true≢false}
+use mathlib.Core.List.{List, [], _∷_}
+use borrow.Author.Tests.{ne-eqb}
+use lib.Dec.{leb}
+use lib.Ieee.{Float}
+use Rattle.model.specs.Label.{label, place}
+use Rattle.model.specs.Fill.{Plan, held, slot, missing}
+use Rattle.model.specs.Arith.{plusZero, Answer, number, overflow, zeroDivisor, isZero}
+use Rattle.model.specs.Formula.{Table, C, Y, X, Tables, Formula, closed, value, Ended, solved, refused, worked}
+use Rattle.model.specs.Crout.{lower, upper, forward, backward, denseFormulas, reducedFormulas, nothing, dense}
+use Rattle.model.specs.Agreement.{Given, Accepted, packed}
+use Rattle.model.proofs.Labels.{Inside, label-range, place-of-label}
+use Rattle.model.proofs.Plans.{pivot-held, missing-free}
+use Rattle.model.proofs.Picked.{picked, shrunk, shrunk-y, shrunk-x, shrunk-held, shrunk-unheld, shrunk-packed}
+use Rattle.model.proofs.Values.{Sound, sound-nothing, sound-c, sound-y, sound-x, Reads, reads-good, number-good, place-entered, place-same, forward-same, backward-same, unheld-value}
+use Rattle.model.proofs.Beside.{formulaOf, denseOf, Beside, done, kept, left-out, into-y, into-x}
+
+-- dense Crout's ending, with C compressed and a refusal in C by the slot of its place
+unfoldable pub squeezed : ℕ → Plan → Ended → Ended
+squeezed N L (solved t) = solved (shrunk N L t)
+squeezed N L (refused r C k) = refused r C (slot N L (place N k .0) (place N k .1))
+squeezed N L (refused r Y k) = refused r Y k
+squeezed N L (refused r X k) = refused r X k
+
+-- how a row ends whose first formula has this answer and target
+abbrev onward : Answer → Table → ℕ → (Float → Ended) → Ended
+onward a tb k rest = elim a [ number v ↦ rest v | overflow ↦ refused 16 tb k | zeroDivisor ↦ refused 17 tb k ]
+
+-- what a formula's answer goes to
+record Targets (f : Formula) (tb : Table) (k : ℕ) : Type 0 where
+  table-is : f .table ≡ tb
+  target-is : f .target ≡ k
+
+worked-cons : {f : Formula} {tb : Table} {k : ℕ} → Targets f tb k → (A B : List Float) (t : Tables) (fs : List Formula)
+    → worked A B t (f ∷ fs) ≡ onward (value A B t f) tb k (λ v. worked A B (closed t tb v) fs)
+unfolding worked
+worked-cons {f} to A B t fs = ap₂ (λ tb k. onward (value A B t f) tb k (λ v. worked A B (closed t tb v) fs)) (to .table-is) (to .target-is)
+
+place-targets : (N : ℕ) (L : Plan) (index : ℕ → ℕ → ℕ) (keep : ℕ → ℕ → Bool) (i j : ℕ) → Targets (formulaOf N L index keep i j) C (index i j)
+unfolding formulaOf lower upper
+place-targets N L index keep i j = step (leb j i)
+  where
+    step : (b : Bool) → Targets (cond b (lower N L index keep i j) (upper N L index keep i j)) C (index i j)
+    step true = record { table-is = refl; target-is = refl }
+    step false = record { table-is = refl; target-is = refl }
+
+forward-targets : (N : ℕ) (L : Plan) (index : ℕ → ℕ → ℕ) (keep : ℕ → ℕ → Bool) (m : ℕ) → Targets (forward N L index keep m) Y m
+unfolding forward
+forward-targets N L index keep m = record { table-is = refl; target-is = refl }
+
+backward-targets : (N : ℕ) (L : Plan) (index : ℕ → ℕ → ℕ) (keep : ℕ → ℕ → Bool) (i : ℕ) → Targets (backward N L index keep i) X i
+unfolding backward
+backward-targets N L index keep i = record { table-is = refl; target-is = refl }
+
+worked-nil : (A B : List Float) (t : Tables) → worked A B t [] ≡ solved t
+unfolding worked
+worked-nil A B t = refl
+
+-- a row that ends solved goes on after a number
+onward-solved : (P : Type 0) (a : Answer) (tb : Table) (k : ℕ) (rest : Float → Ended) (t : Tables) → onward a tb k rest ≡ solved t
+    → ((v : Float) → a ≡ number v → rest v ≡ solved t → P) → P
+onward-solved P (number v) tb k rest t e go = go v refl e
+onward-solved P overflow tb k rest t e go = let z : _≡_ {A = ℕ} 0 1 = cc in absurd (omega arith)
+onward-solved P zeroDivisor tb k rest t e go = let z : _≡_ {A = ℕ} 0 1 = cc in absurd (omega arith)
+
+onward-same : (N : ℕ) (L : Plan) (a : Answer) (tb : Table) (k k′ : ℕ) (rest rest′ : Float → Ended) → ((r : ℕ) → refused r tb k′ ≡ squeezed N L (refused r tb k))
+    → ((v : Float) → a ≡ number v → rest′ v ≡ squeezed N L (rest v)) → onward a tb k′ rest′ ≡ squeezed N L (onward a tb k rest)
+onward-same N L (number v) tb k k′ rest rest′ ends go = go v refl
+onward-same N L overflow tb k k′ rest rest′ ends go = ends 16
+onward-same N L zeroDivisor tb k k′ rest rest′ ends go = ends 17
+
+worked-solved : {f : Formula} {tb : Table} {k : ℕ} → Targets f tb k → (P : Type 0) (A B : List Float) (t t′ : Tables) (fs : List Formula) → worked A B t (f ∷ fs) ≡ solved t′
+    → ((v : Float) → value A B t f ≡ number v → worked A B (closed t tb v) fs ≡ solved t′ → P) → P
+worked-solved to P A B t t′ fs e go = onward-solved P _ _ _ _ t′ (sym (worked-cons to A B t fs) ∙ e) go
+
+module _ {N : ℕ} {L : Plan} {A B : List Float} (given : Given N L A B) where
+  reads : Reads A B
+  reads = record { a = reads-good A (given .valuesA) (given .finiteA); b = reads-good B (given .valuesB) (given .finiteB) }
+
+  place-sound : {n : ℕ} {t : Tables} (i j : ℕ) → Inside N i j → suc n ≡ label N i j → Sound N L n t → (v : Float) → value A B t (denseOf N L i j) ≡ number v → Sound N L (suc n) (closed t C v)
+  place-sound i j inside turn s v e = sound-c s i j inside turn (place-entered reads s i j inside (sym turn) v e)
+
+  -- dense Crout's tables stay sound to the end
+  pub sound-end : {n y x : ℕ} {ds rs : List Formula} {t t′ : Tables} → Beside N L n y x ds rs → Sound N L n t → worked A B t ds ≡ solved t′ → Sound N L (N * N) t′
+  sound-end {t = t} {t′} done s e = let same : t ≡ t′ = cc (worked-nil A B t) in subst (Sound N L (N * N)) same s
+  sound-end {t = t} {t′} (kept i j inside turn h rest) s e =
+      worked-solved (place-targets N L (label N) _ i j) _ A B t t′ _ e (λ v q r. sound-end rest (place-sound i j inside turn s v q) r)
+  sound-end {t = t} {t′} (left-out i j inside turn h rest) s e =
+      worked-solved (place-targets N L (label N) _ i j) _ A B t t′ _ e (λ v q r. sound-end rest (place-sound i j inside turn s v q) r)
+  sound-end {t = t} {t′} (into-y h p rest) s e =
+      worked-solved (forward-targets N L (label N) _ _) _ A B t t′ _ e (λ v q r. sound-end rest (sound-y s (number-good reads s _ q)) r)
+  sound-end {t = t} {t′} (into-x i l p rest) s e =
+      worked-solved (backward-targets N L (label N) _ i) _ A B t t′ _ e (λ v q r. sound-end rest (sound-x s (number-good reads s _ q)) r)
+
+  -- both sides have the same first answer and go on alike
+  both : {f g : Formula} {tb : Table} {k k′ : ℕ} → Targets f tb k → Targets g tb k′ → (t u : Tables) (ds rs : List Formula) → value A B u g ≡ value A B t f
+      → ((r : ℕ) → refused r tb k′ ≡ squeezed N L (refused r tb k))
+      → ((v : Float) → value A B t f ≡ number v → worked A B (closed u tb v) rs ≡ squeezed N L (worked A B (closed t tb v) ds))
+      → worked A B u (g ∷ rs) ≡ squeezed N L (worked A B t (f ∷ ds))
+  both {tb = tb} {k} {k′} to to′ t u ds rs e ends go =
+      worked-cons to′ A B u rs
+      ∙ ap (λ a. onward a tb k′ (λ v. worked A B (closed u tb v) rs)) e
+      ∙ onward-same N L _ tb k k′ _ _ ends go
+      ∙ ap (squeezed N L) (sym (worked-cons to A B t ds))
+
+  module _ (pivots : missing N L ≡ 0) where
+    off-diagonal : (i j : ℕ) → Inside N i j → held N L i j ≡ false → i ≡ j → ⊥
+    off-diagonal i j inside h p =
+        let pivot : held N L i j ≡ true = rw (← p) (pivot-held N L pivots i (inside .row-low) (inside .row-high)) in
+        let z : _≡_ {A = ℕ} 0 1 = cc in
+        omega arith
+
+    -- from any point on, the reduced formulas end as dense Crout does
+    pub reduction : {n y x : ℕ} {ds rs : List Formula} {t : Tables} → Beside N L n y x ds rs → Sound N L n t → worked A B (shrunk N L t) rs ≡ squeezed N L (worked A B t ds)
+    unfolding squeezed
+    reduction {t = t} done s = rw (worked-nil A B t, worked-nil A B (shrunk N L t))
+    reduction {t = t} (kept i j inside turn h rest) s =
+        both (place-targets N L (label N) _ i j) (place-targets N L (slot N L) _ i j) t (shrunk N L t) _ _ (place-same reads s (pivot-held N L pivots) i j inside)
+        (λ r. rw (place-of-label N i j inside))
+        (λ v q. rw (← shrunk-held N L i j inside t v (ap suc (s .count) ∙ turn) h) (reduction rest (place-sound i j inside turn s v q)))
+    reduction {t = t} (left-out i j inside turn h rest) s =
+        let e : value A B t (denseOf N L i j) ≡ number plusZero = unheld-value reads s i j inside (sym turn) h ∙ rw (ne-eqb i j (off-diagonal i j inside h)) in
+        rw (worked-cons (place-targets N L (label N) _ i j) A B t _, e, ← shrunk-unheld N L i j inside t plusZero (ap suc (s .count) ∙ turn) h)
+        (reduction rest (place-sound i j inside turn s plusZero e))
+    reduction {t = t} (into-y h p rest) s =
+        both (forward-targets N L (label N) _ _) (forward-targets N L (slot N L) _ _) t (shrunk N L t) _ _ (forward-same reads s (pivot-held N L pivots) _ (omega arith) h)
+        (λ r. refl)
+        (λ v q. rw (← shrunk-y N L t v) (reduction rest (sound-y s (number-good reads s _ q))))
+    reduction {t = t} (into-x i l p rest) s =
+        both (backward-targets N L (label N) _ i) (backward-targets N L (slot N L) _ i) t (shrunk N L t) _ _ (backward-same reads s (pivot-held N L pivots) i l (omega arith))
+        (λ r. refl)
+        (λ v q. rw (← shrunk-x N L t v) (reduction rest (sound-x s (number-good reads s _ q))))
+
+-- The headline: the reduced formulas end as dense Crout does.
+pub reduced-is-dense : {N : ℕ} {L : Plan} {A B : List Float} → Accepted N L A B → Beside N L 0 0 0 (denseFormulas N L) (reducedFormulas N L)
+    → worked A B (nothing N) (reducedFormulas N L) ≡ squeezed N L (dense N L A B)
+unfolding dense shrunk picked
+reduced-is-dense {N} {L} accepted b = reduction (accepted .given) (accepted .pivots) b (sound-nothing N L)
+
+module _ {N : ℕ} {L : Plan} {A B : List Float} (given : Given N L A B) (b : Beside N L 0 0 0 (denseFormulas N L) (reducedFormulas N L)) where
+  solved-sound : (t : Tables) → dense N L A B ≡ solved t → Sound N L (N * N) t
+  unfolding dense
+  solved-sound t e = sound-end given b (sound-nothing N L) e
+
+  -- where it ends solved, the tables squeezed are those compressed
+  pub solved-packed : (t : Tables) → dense N L A B ≡ solved t → shrunk N L t ≡ packed N L t
+  solved-packed t e = shrunk-packed N L t (solved-sound t e .count)
+
+  -- where a pivot is missing, it never ends solved
+  pub never-solved : (missing N L ≡ 0 → ⊥) → (t : Tables) → dense N L A B ≡ solved t → ⊥
+  unfolding isZero
+  never-solved gap t e =
+      let s = solved-sound t e in
+      let m = missing-free N L gap in
+      let inside : Inside N (missing N L) (missing N L) = omega arith in
+      true≢false (rw (s .unheld _ _ inside (m .free)) at (s .pivot _ (m .low) (m .high) (label-range N _ _ inside .1)))
