@@ -20,8 +20,10 @@ use Rattle.model.proofs.Lists.{Each, rising-each, falling-each, map-eac
 use Rattle.model.proofs.Labels.{Inside, label-range, label-in-column, label-in-row, label-earlier}
 use Rattle.model.proofs.Slots.{slot-range, closedSlots, closed-all, closed-next, slot-closed, slot-new, slots-at-most, slots-at-least}
 use Rattle.model.proofs.Plans.{within-true, within-range, position-at-most, plan-length, pivot-held}
-use Rattle.model.proofs.Beside.{Beside, done, left-out, into-y, into-x, kept as both, reducedOf, formulaOf}
-use Rattle.model.proofs.Chain.{chained-length, compiled-chain}
+use Rattle.model.proofs.Beside.{beside, Beside, done, left-out, into-y, into-x, kept as both, reducedOf, formulaOf}
+use Rattle.model.proofs.Counts.{words-counted}
+use Rattle.model.proofs.Bounds.{records-at-most}
+use Rattle.model.proofs.Chain.{chained-length, program-chain}
 use Rattle.model.proofs.Links.{linksFrom}
 
 -- ---- the records of one formula
@@ -215,11 +217,11 @@ check-chain W some fours few order n low high =
     (rw (order, le-leb (word W 1) _ n, le-leb (word W 0) (word W 2) low, le-leb (word W 2) _ high))
 
 -- The headline: the compiled program of an accepted plan passes every check.
-pub program-fine : (N : ℕ) (L : Plan) {ds : List Formula} → isOrder N ≡ true → judged N 0 1 L ≡ good → missing N L ≡ 0
-    → Beside N L 0 0 0 ds (reducedFormulas N L) → length (compiled N L) / 4 ≤ 100000000 → check (compiled N L) ≡ fine
+pub program-fine : (N : ℕ) (L : Plan) → isOrder N ≡ true → judged N 0 1 L ≡ good → missing N L ≡ 0 → check (compiled N L) ≡ fine
 unfolding compiled compiledRecords kept
-program-fine N L order labels none b few =
+program-fine N L order labels none =
     let size = chained-length 1 (compiledRecords N L) in
+    let few : length (compiled N L) / 4 ≤ 100000000 = omega (arith, words-counted N L none, records-at-most N L (within-range N 600 order .1)) in
     let pivots = pivot-held N L none in
     check-chain (compiled N L) (omega arith) (omega arith) few order (plan-length N L labels) (slots-at-least N L pivots) (slots-at-most N L)
-    ∙ rw (compiled-chain N L (within-range N 600 order .0)) (beside-fine N L pivots b 1)
+    ∙ rw (program-chain N L (within-range N 600 order .0)) (beside-fine N L pivots (beside N L) 1)

@@ -11,13 +11,13 @@ use Rattle.model.specs.Label.{label, place}
 use Rattle.model.specs.Fill.{Plan, held, slot, missing}
 use Rattle.model.specs.Arith.{plusZero, Answer, number, overflow, zeroDivisor, isZero}
 use Rattle.model.specs.Formula.{Table, C, Y, X, Tables, Formula, closed, value, Ended, solved, refused, worked}
-use Rattle.model.specs.Crout.{lower, upper, forward, backward, denseFormulas, reducedFormulas, nothing, dense}
+use Rattle.model.specs.Crout.{lower, upper, forward, backward, reducedFormulas, nothing, dense}
 use Rattle.model.specs.Agreement.{Given, Accepted, packed}
 use Rattle.model.proofs.Labels.{Inside, label-range, place-of-label}
 use Rattle.model.proofs.Plans.{pivot-held, missing-free}
 use Rattle.model.proofs.Picked.{picked, shrunk, shrunk-y, shrunk-x, shrunk-held, shrunk-unheld, shrunk-packed}
 use Rattle.model.proofs.Values.{Sound, sound-nothing, sound-c, sound-y, sound-x, Reads, reads-good, number-good, place-entered, place-same, forward-same, backward-same, unheld-value}
-use Rattle.model.proofs.Beside.{formulaOf, denseOf, Beside, done, kept, left-out, into-y, into-x}
+use Rattle.model.proofs.Beside.{formulaOf, denseOf, beside, Beside, done, kept, left-out, into-y, into-x}
 
 -- dense Crout's ending, with C compressed and a refusal in C by the slot of its place
 unfoldable pub squeezed : ℕ → Plan → Ended → Ended
@@ -135,22 +135,21 @@ module _ {N : ℕ} {L : Plan} {A B : List Float} (given : Given N L A B) where
         (λ r. refl)
         (λ v q. rw (← shrunk-x N L t v) (reduction rest (sound-x s (number-good reads s _ q))))
 
--- The headline: the reduced formulas end as dense Crout does.
-pub reduced-is-dense : {N : ℕ} {L : Plan} {A B : List Float} → Accepted N L A B → Beside N L 0 0 0 (denseFormulas N L) (reducedFormulas N L)
-    → worked A B (nothing N) (reducedFormulas N L) ≡ squeezed N L (dense N L A B)
+-- The headlines: the reduced formulas end as dense Crout does;
+pub reduced-is-dense : {N : ℕ} {L : Plan} {A B : List Float} → Accepted N L A B → worked A B (nothing N) (reducedFormulas N L) ≡ squeezed N L (dense N L A B)
 unfolding dense shrunk picked
-reduced-is-dense {N} {L} accepted b = reduction (accepted .given) (accepted .pivots) b (sound-nothing N L)
+reduced-is-dense {N} {L} accepted = reduction (accepted .given) (accepted .pivots) (beside N L) (sound-nothing N L)
 
-module _ {N : ℕ} {L : Plan} {A B : List Float} (given : Given N L A B) (b : Beside N L 0 0 0 (denseFormulas N L) (reducedFormulas N L)) where
+module _ {N : ℕ} {L : Plan} {A B : List Float} (given : Given N L A B) where
   solved-sound : (t : Tables) → dense N L A B ≡ solved t → Sound N L (N * N) t
   unfolding dense
-  solved-sound t e = sound-end given b (sound-nothing N L) e
+  solved-sound t e = sound-end given (beside N L) (sound-nothing N L) e
 
-  -- where it ends solved, the tables squeezed are those compressed
+  -- where it ends solved, the tables squeezed are those compressed;
   pub solved-packed : (t : Tables) → dense N L A B ≡ solved t → shrunk N L t ≡ packed N L t
   solved-packed t e = shrunk-packed N L t (solved-sound t e .count)
 
-  -- where a pivot is missing, it never ends solved
+  -- and where a pivot is missing, it never ends solved.
   pub never-solved : (missing N L ≡ 0 → ⊥) → (t : Tables) → dense N L A B ≡ solved t → ⊥
   unfolding isZero
   never-solved gap t e =
