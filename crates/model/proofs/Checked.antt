@@ -11,7 +11,7 @@ use Rattle.model.specs.Lists.{joined, kept}
 use Rattle.model.specs.Label.{label, within, isOrder}
 use Rattle.model.specs.Fill.{Plan, position, held, slot, slots, missing}
 use Rattle.model.specs.Formula.{Formula, Table, C, Y, X, numberOf}
-use Rattle.model.specs.Crout.{reducedFormulas, inner, lower, forward, upper, backward}
+use Rattle.model.specs.Crout.{inner, lower, forward, upper, backward}
 use Rattle.model.specs.Program.{Record, rec, opening, recordsOf, compiledRecords, compiled}
 use Rattle.model.specs.Compile.{judged, good}
 use Rattle.model.specs.Check.{Progress, idle, busy, Kind, opens, subtracts, divides, closes, closesPivot, kindOf, counted, onward}

@@ -6,7 +6,7 @@ use lib.Dec.{eqb}
 use lib.ListN.{length, replicate}
 use lib.Ieee.{Float}
 use Rattle.model.specs.Arith.{plusZero, Answer, number, overflow, zeroDivisor, quotient, isZero, isFinite}
-use Rattle.model.specs.Formula.{Table, C, Y, X, Tables, entry, closed, starting, less}
+use Rattle.model.specs.Formula.{Table, C, Y, X, numberOf, Tables, entry, closed, starting, less}
 use Rattle.model.specs.Crout.{nothing}
 use Rattle.model.specs.Check.{Link, Kind, opens, subtracts, divides, closes, closesPivot, none, kindOf, check, chain, fine, refusal, word}
 
@@ -95,6 +95,20 @@ ran W A B lc ly lx =
         | true ↦ elim (eqb a 0) [ false ↦ refusedBy 15 a | true ↦ elim (eqb b 0) [ false ↦ refusedBy 15 b | true ↦ done ] ]
       ]
     ]
+
+-- what the caller is told; the closed values stand in the lent tables
+pub data Reply : Type 0 where
+  -- the products and the quotients made
+  solves : ℕ → ℕ → Reply
+  -- 16 or 17, the record, and the table's number and the number of the target
+  stops : ℕ → ℕ → ℕ → ℕ → Reply
+  -- 7 to 15 and the detail
+  refuses : ℕ → ℕ → Reply
+
+unfoldable pub reply : Outcome → Reply
+reply (solution t products quotients) = solves products quotients
+reply (stopped r index t k) = stops r index (numberOf t) k
+reply (refusedBy r d) = refuses r d
 
 -- What a run that ends so leaves in the lent table t, which held vs: that after 7 to 15, +0 everywhere after 16 and 17, the closed values on a solution.
 unfoldable pub leaves : Outcome → Table → List Float → List Float
