@@ -3,6 +3,7 @@ use Prim.Native.Nat.{ℕ, _+_, _≤_}
 use mathlib.Core.Path.{_≡_, refl, ap, _∙_}
 use mathlib.Core.List.{List}
 use native.Mathlib.Omega.{arith}
+use lib.ListN.{length}
 use lib.Ieee.{Float}
 use Rattle.model.specs.Fill.{Plan, slots, productCount, above}
 use Rattle.model.specs.Formula.{C, Y, X, Ended, solved, refused}
@@ -12,7 +13,7 @@ use Rattle.model.specs.Check.{chain}
 use Rattle.model.specs.Run.{fresh, follow, ran}
 use Rattle.model.specs.Agreement.{Accepted, whole, seen, compressed}
 use Rattle.model.proofs.Plans.{within-range}
-use Rattle.model.proofs.Runs.{lengths-right, ran-on}
+use Rattle.model.proofs.Runs.{gated-open, lengths-right, ran-fine}
 use Rattle.model.proofs.Tally.{productsOf, quotientsOf}
 use Rattle.model.proofs.Machine.{machine, reduced-started, shown}
 use Rattle.model.proofs.Reduction.{squeezed, reduced-is-dense, solved-packed}
@@ -24,11 +25,11 @@ module _ {N : ℕ} {L : Plan} {A B : List Float} (accepted : Accepted N L A B) w
   open Accepted accepted using (given, pivots)
 
   -- the checks before the first record let the run through
-  runs : ran (compiled N L) A B (slots N L) N N ≡ follow A B (fresh N) (chain (compiled N L) .links)
+  pub runs : ran (compiled N L) A B (slots N L) N N ≡ follow A B (fresh N) (chain (compiled N L) .links)
   unfolding compiled
   runs =
-      ran-on (compiled N L) A B (slots N L) N N (program-fine N L (given .order) (given .labels) pivots)
-      (lengths-right (compiled N L) _ _ _ _ _ (given .lengthA) (given .lengthB) refl refl refl) (given .finiteA) (given .finiteB)
+      ran-fine (compiled N L) A B (slots N L) N N (program-fine N L (given .order) (given .labels) pivots)
+      ∙ gated-open _ _ _ _ _ _ (lengths-right N (length L) (slots N L) _ _ _ _ _ (given .lengthA) (given .lengthB) refl refl refl) (given .finiteA) (given .finiteB)
 
   -- the run's ending is that of the reduced formulas, with the plan's counts
   follows : seen (ran (compiled N L) A B (slots N L) N N) ≡ shown (productCount N L) (N + above N L) (squeezed N L (dense N L A B))

@@ -7,6 +7,7 @@ pub mod Labels
 pub mod Fill
 pub mod Slots
 pub mod Plans
+pub mod Compiles
 pub mod Runs
 pub mod Bytes
 pub mod Beside
@@ -21,3 +22,4 @@ pub mod Bounds
 pub mod Chain
 pub mod Checked
 pub mod Agreement
+pub mod Solving

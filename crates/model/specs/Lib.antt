@@ -12,4 +12,5 @@ pub mod Run
 pub mod File
 pub mod Boundary
 pub mod Agreement
+pub mod Solve
 pub mod Known

@@ -1,0 +1,51 @@
+-- What `solve` answers and leaves, by the checks 1 to 6, 14 and 15 and by dense Crout alone: document 01, "Set beside dense Crout". Definitions only.
+use Prim.Native.Nat.{ℕ}
+use mathlib.Core.Bool.{true, false, _&&_}
+use mathlib.Core.List.{List}
+use lib.Dec.{eqb}
+use lib.ListN.{length, replicate}
+use lib.Ieee.{Float}
+use Rattle.model.specs.Arith.{plusZero}
+use Rattle.model.specs.Fill.{Plan, slots}
+use Rattle.model.specs.Formula.{Table, C, Y, X, numberOf}
+use Rattle.model.specs.Crout.{dense}
+use Rattle.model.specs.Compile.{compiles, written, refusal}
+use Rattle.model.specs.Run.{notFinite}
+use Rattle.model.specs.Agreement.{Seen, whole, ended, early, compressed}
+
+-- How solving ends, with slices of work numbers, words, C, Y and X of these lengths: the compiler's checks, the lengths (14), the values (15),
+-- then dense Crout with C compressed.
+unfoldable pub solving : ℕ → Plan → List Float → List Float → ℕ → ℕ → ℕ → ℕ → ℕ → Seen
+solving N L A B work words c y x =
+    let a = notFinite 1 A in
+    let b = notFinite 1 B in
+    let done = compressed N L (dense N L A B) in
+    elim (compiles N L work words) [
+      | refusal r d ↦ early r d
+      | written s p r ↦ elim (eqb (length A) (length L) && (eqb (length B) N && (eqb c (slots N L) && (eqb y N && eqb x N)))) [
+        | false ↦ early 14 0
+        | true ↦ elim (eqb a 0) [ false ↦ early 15 a | true ↦ elim (eqb b 0) [ false ↦ early 15 b | true ↦ done ] ]
+      ]
+    ]
+
+-- what the caller is told of it
+pub data Told : Type 0 where
+  -- the products and the quotients
+  solved : ℕ → ℕ → Told
+  -- 16 or 17, and the table's number and the number of the target
+  stopped : ℕ → ℕ → ℕ → Told
+  -- 1 to 15 and the detail
+  refused : ℕ → ℕ → Told
+
+unfoldable pub told : Seen → Told
+told (whole t products quotients) = solved products quotients
+told (ended r t k) = stopped r (numberOf t) k
+told (early r d) = refused r d
+
+-- what it leaves in the lent table t, which held vs
+unfoldable pub leftIn : Seen → Table → List Float → List Float
+leftIn (whole t products quotients) C vs = t .c
+leftIn (whole t products quotients) Y vs = t .y
+leftIn (whole t products quotients) X vs = t .x
+leftIn (ended r u k) t vs = replicate (length vs) plusZero
+leftIn (early r d) t vs = vs
