@@ -10,6 +10,8 @@ pub mod Plans
 pub mod Compiles
 pub mod Runs
 pub mod Bytes
+pub mod Reading
+pub mod Following
 pub mod Beside
 pub mod Links
 pub mod Tally

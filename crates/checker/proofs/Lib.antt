@@ -1,0 +1,4 @@
+-- The laws that the proofs of `checker` share.
+pub mod Judging
+pub mod Turns
+pub mod Whole

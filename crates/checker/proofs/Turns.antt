@@ -1,0 +1,112 @@
+-- The check along a chain, record by record, as a loop makes it.
+use Prim.Native.Nat.{ℕ, _+_, _*_, _/_, _≤_, _<_}
+use native.Mathlib.Omega.{arith}
+use mathlib.Core.Path.{_≡_, refl, sym, ap, ap₂, subst, _∙_}
+use mathlib.Core.Bool.{Bool, true, false, _&&_, and-eq-true-iff}
+use mathlib.Core.List.{List, _∷_}
+use lib.Dec.{ltb}
+use lib.ListN.{length}
+use borrow.Author.Tests.{ltb-true}
+use Rattle.model.specs.Check as Check
+use Rattle.model.specs.Check.{word, recordAt, nextOf, whole, broken, Link, End, Chain, Verdict, refusal, kindOf, formed, inOrder, inTurn, onward, atEnd, checkLinks}
+use Rattle.model.proofs.Following.{chainFrom, chain-from, chain-ends, chain-breaks, chain-goes, check-ended, check-link}
+use Rattle.checker.specs.declared.Head.{Head}
+use Rattle.checker.specs.declared.Progress.{Progress}
+use Rattle.checker.specs.declared.Stepped.{Stepped}
+use Rattle.checker.specs.declared.Stepped.the-variants.{On, Refused}
+use Rattle.checker.specs.Steps.{progressOf, total, Judged, on, refused, judgedOf, picked, judged, stepped, followed}
+use Rattle.checker.proofs.Judging.{totalAfter, judged-total}
+
+-- the check of a chain after a record, by what that leads to
+abbrev afterLink : ℕ → ℕ → ℕ → Link → List Link → End → Judged → Verdict
+afterLink N n s l ls e (on g) = checkLinks N n s g ls e
+afterLink N n s l ls e (refused r) = refusal r (l .index)
+
+-- the check from record k on, where g is the progress after it
+abbrev pub rest : Head → List ℕ → Check.Progress → ℕ → Verdict
+rest h W g k = checkLinks (h .order) (h .coefficients) (h .slots) g (chainFrom W k .links) (chainFrom W k .end)
+
+-- the same by what record k leads to
+abbrev after : Head → List ℕ → ℕ → Judged → Verdict
+after h W k j = afterLink (h .order) (h .coefficients) (h .slots) (record { index = k; at = recordAt W k }) (chainFrom W k .links) (chainFrom W k .end) j
+
+-- what holds at the head of a loop: what is to be answered is the check from record k on, and no more entries are closed than records passed
+pub record Going (h : Head) (W : List ℕ) (g : Progress) (k : ℕ) : Type 0 where
+  pub same : followed h W ≡ rest h W (progressOf g) k
+  pub inside : k < length W / 4
+  pub few : total (progressOf g) ≤ k
+
+-- what check 9 says of a next index that may stand
+pub next-true : (k n records : ℕ) → ltb k n && ltb n records ≡ true → (k < n) × (n < records)
+next-true k n records e =
+    let both = and-eq-true-iff (ltb k n) (ltb n records) .0 e in
+    (ltb-true k n (both .0), ltb-true n records (both .1))
+
+-- one turn: record k names n as next, and r is what a step makes of record n
+pub record Turn (h : Head) (W : List ℕ) (g : Progress) (k n : ℕ) (r : Stepped) : Type 0 where
+  pub here : Going h W g k
+  pub is : n ≡ nextOf W k
+  pub up : k < n
+  pub low : n < length W / 4
+  pub step-is : judgedOf r ≡ stepped h g (word W (4 * n)) (word W (4 * n + 1)) (word W (4 * n + 2))
+
+-- the check of a chain is its first record's judgement, and then the rest
+link-judged : (N n s : ℕ) (g : Check.Progress) (l : Link) (ls : List Link) (e : End)
+    → checkLinks N n s g (l ∷ ls) e ≡ afterLink N n s l ls e (judged N n s g (kindOf (l .at .kind)) (l .at .p) (l .at .q))
+unfolding judged picked
+link-judged N n s g l ls e =
+    let k = kindOf (l .at .kind) in
+    check-link N n s g l ls e ∙ step (formed k (l .at .p) (l .at .q)) (inOrder k (g .target)) (inTurn N n s k (l .at .p) (l .at .q) g)
+  where
+    step : (f o t : Bool) → elim f [
+      | false ↦ refusal 10 (l .index)
+      | true ↦ elim o [ false ↦ refusal 11 (l .index) | true ↦ elim t [ false ↦ refusal 12 (l .index) | true ↦ checkLinks N n s (onward (kindOf (l .at .kind)) g) ls e ] ]
+    ] ≡ afterLink N n s l ls e (picked f o t (onward (kindOf (l .at .kind)) g))
+    step false o t = refl
+    step true false t = refl
+    step true true false = refl
+    step true true true = refl
+
+module _ (h : Head) (W : List ℕ) where
+  along : Check.Progress → Chain → Verdict
+  along g d = checkLinks (h .order) (h .coefficients) (h .slots) g (d .links) (d .end)
+
+  -- where a loop begins; where it ends, at a zero or at an index that may not stand; and what a turn leads to
+  pub begins : (g : Progress) → progressOf g ≡ Check.begun → 0 < length W / 4 → Going h W g 0
+  unfolding along
+  begins g e some = record { same = ap (along Check.begun) (chain-from W) ∙ ap (λ m. rest h W m 0) (sym e); inside = some; few = omega (arith, ap total e) }
+
+  module _ (g : Progress) (k : ℕ) (here : Going h W g k) where
+    pub ends : nextOf W k ≡ 0 → atEnd (h .order) (h .slots) (progressOf g) whole ≡ followed h W
+    unfolding along
+    ends e = sym (here .same ∙ ap (along (progressOf g)) (chain-ends W k e) ∙ check-ended _ _ _ (progressOf g) whole)
+
+    pub breaks : (n records : ℕ) → n ≡ nextOf W k → records ≡ length W / 4 → (n ≡ 0 → ⊥) → ltb k n && ltb n records ≡ false → refusal 9 k ≡ followed h W
+    unfolding along
+    breaks n records is size some bad =
+        let refused = ap₂ (λ n records. ltb k n && ltb n records) (sym is) (sym size) ∙ bad in
+        sym (here .same ∙ ap (along (progressOf g)) (chain-breaks W k (λ e. some (is ∙ e)) refused) ∙ check-ended _ _ _ (progressOf g) (broken k))
+
+    links : k < nextOf W k → nextOf W k < length W / 4
+        → followed h W ≡ after h W (nextOf W k) (stepped h g (word W (4 * nextOf W k)) (word W (4 * nextOf W k + 1)) (word W (4 * nextOf W k + 2)))
+    unfolding along
+    links up low = here .same ∙ ap (along (progressOf g)) (chain-goes W k up low) ∙ link-judged _ _ _ (progressOf g) _ _ _
+
+  module _ (g : Progress) (k n : ℕ) (r : Stepped) (t : Turn h W g k n r) where
+    turned : followed h W ≡ after h W n (judgedOf r)
+    turned =
+        subst (λ m. followed h W ≡ after h W m (stepped h g (word W (4 * m)) (word W (4 * m + 1)) (word W (4 * m + 2)))) (sym (t .is)) (links g k (t .here) (omega arith) (omega arith))
+        ∙ ap (after h W n) (sym (t .step-is))
+
+    pub goes-on : (g′ : Progress) → r ≡ On g′ → Going h W g′ n
+    goes-on g′ e =
+        let more = judged-total (h .order) (h .coefficients) (h .slots) (progressOf g) (kindOf (word W (4 * n))) (word W (4 * n + 1)) (word W (4 * n + 2)) in
+        let few : total (progressOf g′) ≤ n = omega (arith, more, ap totalAfter (t .step-is), ap (λ r. totalAfter (judgedOf r)) e) in
+        record { same = turned ∙ ap (λ r. after h W n (judgedOf r)) e; inside = t .low; few = few }
+
+    pub stops : (m : ℕ) → r ≡ Refused m → refusal m n ≡ followed h W
+    stops m e = sym (turned ∙ ap (λ r. after h W n (judgedOf r)) e)
+
+-- equal numbers are judged equally
+pub step-same : (h : Head) (g : Progress) {kind p q kind′ p′ q′ : ℕ} → kind ≡ kind′ → p ≡ p′ → q ≡ q′ → stepped h g kind p q ≡ stepped h g kind′ p′ q′
+step-same h g ek ep eq = cc

@@ -1,0 +1,401 @@
+// A program's words, or a file's bytes, against checks 7 to 13: document 01, "Where each refusal is checked". One pass, no memory.
+ghost use mathlib.Core.Path.{_≡_};
+ghost use mathlib.Core.Bool.{_&&_};
+ghost use Prim.Native.Nat.{_+_, _*_, _/_, _%_, _≤_, _<_};
+ghost use lib.Dec.{ltb, eqb};
+ghost use lib.ListN.{length};
+ghost use Rattle.model.specs.Label.{within as Label·within};
+ghost use Rattle.model.specs.Formula.{C, Y, X};
+ghost use Rattle.model.specs.Check.{word, opens, kindOf, inTurn, counted, whole, atEnd};
+ghost use Rattle.model.specs.Check.{check as Check·check};
+ghost use Rattle.model.specs.Check.{complete as Check·complete};
+ghost use Rattle.model.specs.Check.{begun as Check·begun};
+ghost use Rattle.model.specs.File.{wordsOf, checkFile};
+ghost use Rattle.checker.specs.Checked.{verdictOf};
+ghost use Rattle.checker.specs.Steps.{openOf, openNumber, progressOf, total, judgedOf, picked, stepped, countFits, headFits, followed};
+
+// What a check answers: nothing wrong, or a refusal's number and its detail.
+pub enum Checked {
+    Fine,
+    Refused { number: u32, detail: u64 },
+}
+
+// Record 0: N, n and s.
+struct Head {
+    order: u32,
+    coefficients: u32,
+    slots: u32,
+}
+
+// What is open.
+enum Target {
+    Nothing,
+    C,
+    Y,
+    X,
+}
+
+// What is open, and how many entries of C, Y and X are closed.
+struct Progress {
+    target: Target,
+    c: u32,
+    y: u32,
+    x: u32,
+}
+
+// What a record leads to: the progress after it, or the number of its refusal.
+enum Stepped {
+    On(Progress),
+    Refused(u32),
+}
+
+// Checks 7 to 13 of a program.
+pub fn check(words: &[u32]) -> Checked
+    ensures { λ r. ⌜ verdictOf r ≡ Check·check (now (words .entry)) ⌝ }
+{
+    if !count_fits(words.len()) {
+        return Checked::Refused {
+            number: 7,
+            detail: 0,
+        };
+    }
+    let h = Head {
+        order: words[0],
+        coefficients: words[1],
+        slots: words[2],
+    };
+    if !head_fits(h) {
+        return Checked::Refused {
+            number: 8,
+            detail: 0,
+        };
+    }
+    follow_words(words, h)
+}
+
+// Check 18 of a file, then 7 to 13 of the program in it.
+pub fn check_file(bytes: &[u8]) -> Checked
+    ensures { λ r. ⌜ verdictOf r ≡ checkFile (now (bytes .entry)) ⌝ }
+{
+    if bytes.len() % 4 != 0 {
+        return Checked::Refused {
+            number: 18,
+            detail: 0,
+        };
+    }
+    if !count_fits(bytes.len() / 4) {
+        return Checked::Refused {
+            number: 7,
+            detail: 0,
+        };
+    }
+    let h = Head {
+        order: word_at(bytes, 0),
+        coefficients: word_at(bytes, 1),
+        slots: word_at(bytes, 2),
+    };
+    if !head_fits(h) {
+        return Checked::Refused {
+            number: 8,
+            detail: 0,
+        };
+    }
+    follow_bytes(bytes, h)
+}
+
+// 7: there are words, in fours, and at most 100,000,000 records.
+fn count_fits(count: usize) -> bool
+    ensures { λ r. ⌜ r ≡ countFits count ⌝ }
+{
+    0 < count && (count % 4 == 0 && count / 4 <= 100_000_000)
+}
+
+// 8: N in 1..600, n at most N², s in N..N².
+fn head_fits(h: Head) -> bool
+    ensures { λ r. ⌜ r ≡ headFits (h .order) (h .coefficients) (h .slots) ⌝ }
+{
+    let n = h.order;
+    within(n, 600) && (h.coefficients <= n * n && (n <= h.slots && h.slots <= n * n))
+}
+
+// The records along the chain of a program's words, and its end.
+fn follow_words(words: &[u32], h: Head) -> Checked
+    requires { ⌜ (0 < length (now words)) × ((length (now words) % 4 ≡ 0) × (length (now words) / 4 ≤ 100000000)) ⌝ }
+    ensures { λ r. ⌜ verdictOf r ≡ followed h (now (words .entry)) ⌝ }
+{
+    let records = words.len() / 4;
+    let mut g = begun();
+    let mut k = 0;
+    loop {
+        let next = wide(words[4 * k + 3]);
+        if next == 0 {
+            return at_end(h, g);
+        }
+        if !may_follow(next, k, records) {
+            return Checked::Refused {
+                number: 9,
+                detail: k as u64,
+            };
+        }
+        k = next;
+        let at = 4 * k;
+        match step(h, g, words[at], words[at + 1], words[at + 2]) {
+            Stepped::On(after) => g = after,
+            Stepped::Refused(number) => return Checked::Refused {
+                number,
+                detail: k as u64,
+            },
+        }
+    }
+}
+
+// The same of a file's bytes.
+fn follow_bytes(bytes: &[u8], h: Head) -> Checked
+    requires { ⌜ (0 < length (now bytes)) × ((length (now bytes) % 16 ≡ 0) × (length (now bytes) / 16 ≤ 100000000)) ⌝ }
+    ensures { λ r. ⌜ verdictOf r ≡ followed h (wordsOf (now (bytes .entry))) ⌝ }
+{
+    let records = bytes.len() / 16;
+    let mut g = begun();
+    let mut k = 0;
+    loop {
+        let next = wide(word_at(bytes, 4 * k + 3));
+        if next == 0 {
+            return at_end(h, g);
+        }
+        if !may_follow(next, k, records) {
+            return Checked::Refused {
+                number: 9,
+                detail: k as u64,
+            };
+        }
+        k = next;
+        let at = 4 * k;
+        match step(
+            h,
+            g,
+            word_at(bytes, at),
+            word_at(bytes, at + 1),
+            word_at(bytes, at + 2),
+        ) {
+            Stepped::On(after) => g = after,
+            Stepped::Refused(number) => return Checked::Refused {
+                number,
+                detail: k as u64,
+            },
+        }
+    }
+}
+
+// 9: a next index is above its own record's, and below the record count.
+fn may_follow(next: usize, k: usize, records: usize) -> bool
+    ensures { λ r. ⌜ r ≡ (ltb k next && ltb next records) ⌝ }
+{
+    k < next && next < records
+}
+
+// The i-th word of a file: four bytes, low byte first.
+fn word_at(bytes: &[u8], i: usize) -> u32
+    requires { ⌜ 4 * i + 3 < length (now bytes) ⌝ }
+    ensures { λ r. ⌜ r ≡ word (wordsOf (now (bytes .entry))) i ⌝ }
+{
+    let at = 4 * i;
+    let a = byte(bytes[at]);
+    let b = byte(bytes[at + 1]);
+    let c = byte(bytes[at + 2]);
+    let d = byte(bytes[at + 3]);
+    a + 256 * b + 65536 * c + 16777216 * d
+}
+
+// A byte as a 32-bit number.
+fn byte(x: u8) -> u32
+    ensures { λ r. ⌜ (r ≡ x) × (r < 256) ⌝ }
+{
+    x as u32
+}
+
+// A word as an index.
+fn wide(x: u32) -> usize
+    ensures { λ r. ⌜ r ≡ x ⌝ }
+{
+    x as usize
+}
+
+// Whether k lies in 1..n.
+fn within(k: u32, n: u32) -> bool
+    ensures { λ r. ⌜ r ≡ Label·within k n ⌝ }
+{
+    0 < k && k <= n
+}
+
+// Nothing is open, and nothing closed.
+fn begun() -> Progress
+    ensures { λ r. ⌜ progressOf r ≡ Check·begun ⌝ }
+{
+    Progress {
+        target: Target::Nothing,
+        c: 0,
+        y: 0,
+        x: 0,
+    }
+}
+
+// 10 to 12 of one record, and the progress after it.
+fn step(h: Head, g: Progress, kind: u32, p: u32, q: u32) -> Stepped
+    requires { ⌜ total (progressOf g) ≤ 100000000 ⌝ }
+    ensures { λ r. ⌜ judgedOf r ≡ stepped h g kind p q ⌝ }
+{
+    let target = g.target;
+    let open = open_number(target);
+    match kind {
+        1 => settle(true, open == 0, turn_of_c(h, g, p, q), opened(g, Target::C)),
+        2 => settle(q == 0, open == 0, turn_of_y(h, g, p), opened(g, Target::Y)),
+        3 => settle(q == 0, open == 0, turn_of_x(h, g, p), opened(g, Target::X)),
+        4 | 5 | 6 => settle(true, open == kind - 3, readable(h, g, kind, p, q), g),
+        7 => settle(q == 0, open != 0, within(p, g.c), g),
+        8 => settle(unused(p, q), open != 0, true, closed(g)),
+        9 => settle(unused(p, q), open == 1, true, closed(g)),
+        0 | 10..=u32::MAX => Stepped::Refused(10),
+    }
+}
+
+// 10, then 11, then 12, by the tests that a kind makes.
+fn settle(formed: bool, ordered: bool, turned: bool, after: Progress) -> Stepped
+    ensures { λ r. ⌜ judgedOf r ≡ picked formed ordered turned (progressOf after) ⌝ }
+{
+    if !formed {
+        return Stepped::Refused(10);
+    }
+    if !ordered {
+        return Stepped::Refused(11);
+    }
+    if !turned {
+        return Stepped::Refused(12);
+    }
+    Stepped::On(after)
+}
+
+// The number of the open table, 0 if none is open.
+fn open_number(target: Target) -> u32
+    ensures { λ r. ⌜ r ≡ openNumber (openOf target) ⌝ }
+{
+    match target {
+        Target::Nothing => 0,
+        Target::C => 1,
+        Target::Y => 2,
+        Target::X => 3,
+    }
+}
+
+// 10 of kinds 8 and 9: both operands are 0.
+fn unused(p: u32, q: u32) -> bool
+    ensures { λ r. ⌜ r ≡ (eqb p 0 && eqb q 0) ⌝ }
+{
+    p == 0 && q == 0
+}
+
+// 12 of kind 1: C(q) opens after the closed ones, with A(p), or with zero if p is 0.
+fn turn_of_c(h: Head, g: Progress, p: u32, q: u32) -> bool
+    requires { ⌜ total (progressOf g) ≤ 100000000 ⌝ }
+    ensures { λ r. ⌜ r ≡ inTurn (h .order) (h .coefficients) (h .slots) (opens C) p q (progressOf g) ⌝ }
+{
+    p <= h.coefficients && (q == g.c + 1 && q <= h.slots)
+}
+
+// 12 of kind 2: Y(p) opens after the closed ones.
+fn turn_of_y(h: Head, g: Progress, p: u32) -> bool
+    requires { ⌜ total (progressOf g) ≤ 100000000 ⌝ }
+    ensures { λ r. ⌜ r ≡ inTurn (h .order) (h .coefficients) (h .slots) (opens Y) p 0 (progressOf g) ⌝ }
+{
+    p == g.y + 1 && p <= h.order
+}
+
+// 12 of kind 3: X(p) opens below the closed ones, with Y(p), which is closed.
+fn turn_of_x(h: Head, g: Progress, p: u32) -> bool
+    requires { ⌜ total (progressOf g) ≤ 100000000 ⌝ }
+    ensures { λ r. ⌜ r ≡ inTurn (h .order) (h .coefficients) (h .slots) (opens X) p 0 (progressOf g) ⌝ }
+{
+    let order = h.order;
+    let x = g.x;
+    within(p, g.y) && p + x == order
+}
+
+// 12 of kinds 4 to 6: C(p) is closed, and so is C(q), Y(q) or X(q).
+fn readable(h: Head, g: Progress, kind: u32, p: u32, q: u32) -> bool
+    requires { ⌜ (4 ≤ kind) × (kind ≤ 6) ⌝ }
+    ensures { λ r. ⌜ r ≡ inTurn (h .order) (h .coefficients) (h .slots) (kindOf kind) p q (progressOf g) ⌝ }
+{
+    if !within(p, g.c) {
+        return false;
+    }
+    match kind {
+        4 => within(q, g.c),
+        5 => within(q, g.y),
+        _ => within(q, h.order) && h.order - q < g.x,
+    }
+}
+
+// The target is open.
+fn opened(g: Progress, target: Target) -> Progress
+    ensures { λ r. ⌜ progressOf r ≡ record { target = openOf target; c = g .c; y = g .y; x = g .x } ⌝ }
+{
+    Progress {
+        target,
+        c: g.c,
+        y: g.y,
+        x: g.x,
+    }
+}
+
+// One entry more of the open table is closed, and none is open.
+fn closed(g: Progress) -> Progress
+    requires { ⌜ total (progressOf g) ≤ 100000000 ⌝ }
+    ensures { λ r. ⌜ progressOf r ≡ counted (openOf (g .target)) (progressOf g) ⌝ }
+{
+    let target = g.target;
+    match target {
+        Target::Nothing => g,
+        Target::C => Progress {
+            target: Target::Nothing,
+            c: g.c + 1,
+            y: g.y,
+            x: g.x,
+        },
+        Target::Y => Progress {
+            target: Target::Nothing,
+            c: g.c,
+            y: g.y + 1,
+            x: g.x,
+        },
+        Target::X => Progress {
+            target: Target::Nothing,
+            c: g.c,
+            y: g.y,
+            x: g.x + 1,
+        },
+    }
+}
+
+// 13 at the end of a chain.
+fn at_end(h: Head, g: Progress) -> Checked
+    ensures { λ r. ⌜ verdictOf r ≡ atEnd (h .order) (h .slots) (progressOf g) whole ⌝ }
+{
+    if complete(h, g) {
+        Checked::Fine
+    } else {
+        Checked::Refused {
+            number: 13,
+            detail: 0,
+        }
+    }
+}
+
+// Nothing is open, and C, Y and X are all closed.
+fn complete(h: Head, g: Progress) -> bool
+    ensures { λ r. ⌜ r ≡ Check·complete (h .order) (h .slots) (progressOf g) ⌝ }
+{
+    let order = h.order;
+    let slots = h.slots;
+    let target = g.target;
+    let open = open_number(target);
+    open == 0 && (g.c == slots && (g.y == order && g.x == order))
+}

@@ -1,0 +1,4 @@
+-- The laws that the proofs of `codec` share.
+pub mod Turn
+pub mod Outcome
+pub mod Again
