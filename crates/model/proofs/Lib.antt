@@ -25,3 +25,4 @@ pub mod Chain
 pub mod Checked
 pub mod Agreement
 pub mod Solving
+pub mod Small

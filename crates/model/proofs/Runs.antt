@@ -33,6 +33,18 @@ module _ {S : Type 0} (lengths : S) (value : ℕ → S) where
   unfolding gated
   gated-same right a b done done′ same = gate-same right (eqb a 0) (eqb b 0) a b done done′ (λ r p q. same r (eqb-true a 0 p) (eqb-true b 0 q))
 
+  gate-each : (P : S → Type 0) (right p q : Bool) (a b : ℕ) (done : S) → P lengths → P (value a) → P (value b) → P done → P (gate right p q a b done)
+  unfolding gate
+  gate-each P false p q a b done l va vb d = l
+  gate-each P true false q a b done l va vb d = va
+  gate-each P true true false a b done l va vb d = vb
+  gate-each P true true true a b done l va vb d = d
+
+  -- what holds of each case holds
+  pub gated-each : (P : S → Type 0) (right : Bool) (a b : ℕ) (done : S) → P lengths → P (value a) → P (value b) → P done → P (gated right a b done)
+  unfolding gated
+  gated-each P right a b done = gate-each P right (eqb a 0) (eqb b 0) a b done
+
   gate-open : (a b : ℕ) (done : S) → gate true true true a b done ≡ done
   unfolding gate
   gate-open a b done = refl
@@ -73,14 +85,14 @@ right-lengths N n s a b c y x e =
 
 module _ (W : List ℕ) (A B : List Float) (c y x : ℕ) where
   -- a run by the verdict of 7 to 13, and then by 14 and 15
-  ranBy : Verdict → Outcome
+  unfoldable pub ranBy : Verdict → Outcome
   ranBy v = elim v [
     | refusal r d ↦ refusedBy r d
     | fine ↦ gated (refusedBy 14 0) (refusedBy 15) (lengthsRight (word W 0) (word W 1) (word W 2) (length A) (length B) c y x) (notFinite 1 A) (notFinite 1 B)
         (follow A B (fresh (word W 0)) (chain W .links))
   ]
 
-  ran-is : ran W A B c y x ≡ ranBy (check W)
+  pub ran-is : ran W A B c y x ≡ ranBy (check W)
   unfolding ran ranBy gated lengthsRight
   ran-is = refl
 

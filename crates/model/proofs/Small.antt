@@ -1,0 +1,269 @@
+-- Refusals are small: a number of at most 20 and a detail that is at most a record count, a length or a number of records, so both fit one 64-bit number.
+use Prim.Native.Nat.{ℕ, zero, suc, _+_, _*_, _/_, _%_, _≤_}
+use mathlib.Core.Path.{_≡_, refl}
+use mathlib.Core.Bool.{Bool, true, false, cond, _&&_}
+use mathlib.Core.List.{List, [], _∷_}
+use native.Mathlib.Omega.{arith}
+use native.Mathlib.Nat.{mul-le-mul}
+use lib.Dec.{eqb, leb, ltb}
+use lib.ListN.{length}
+use lib.Ieee.{Float}
+use borrow.Author.Tests.{ltb-true, eqb-false}
+use Rattle.model.specs.Label.{isOrder, within}
+use Rattle.model.specs.Fill.{Plan, missing, recordCount, slots, productCount}
+use Rattle.model.specs.Check as Check
+use Rattle.model.specs.Check.{Link, Kind, opens, subtracts, divides, closes, closesPivot, none, End, whole, broken, Chain, chainAfter, chain, nextOf, recordAt, before, Progress, Verdict, fine, kindOf, formed, inOrder, inTurn, onward, complete, checkLinks, check, begun, word}
+use Rattle.model.specs.Arith.{Answer, number, overflow, zeroDivisor, quotient, isZero, isFinite}
+use Rattle.model.specs.Formula.{C, Y, X, entry, less}
+use Rattle.model.specs.Run.{State, Outcome, stopped, refusedBy, fresh, Stepped, going, stop, closing, subtracted, dividedBy, settledStep, step, follow, notFinite, ran, Reply, solves, stops, refuses, reply}
+use Rattle.model.specs.Compile as Compile
+use Rattle.model.specs.Compile.{Compiled, written, Labels, good, bad, judged, compiles}
+use Rattle.model.specs.File as File
+use Rattle.model.specs.File.{Filed, filed, writes, reads, wordsOf, checkFile}
+use Rattle.model.proofs.Bytes.{words-length}
+use Rattle.model.proofs.Plans.{within-range, missing-free}
+use Rattle.model.proofs.Compiles.{compilesBy, compiles-is}
+use Rattle.model.proofs.Runs.{gated-each, lengthsRight, ranBy, ran-is}
+use Rattle.model.proofs.Bounds.{records-at-most}
+
+-- a refusal's number is at most 20 and its detail at most b
+abbrev pub Small : ℕ → ℕ → ℕ → Type 0
+Small b r d = (r ≤ 20) × (d ≤ b)
+
+-- ---- checks 7 to 13, and 18
+
+abbrev pub SmallVerdict : ℕ → Verdict → Type 0
+SmallVerdict b fine = Unit {0}
+SmallVerdict b (Check.refusal r d) = Small b r d
+
+abbrev LinksUpTo : ℕ → List Link → Type 0
+LinksUpTo b [] = Unit {0}
+LinksUpTo b (l ∷ ls) = (l .index ≤ b) × LinksUpTo b ls
+
+abbrev EndUpTo : ℕ → End → Type 0
+EndUpTo b whole = Unit {0}
+EndUpTo b (broken k) = k ≤ b
+
+abbrev ChainUpTo : ℕ → Chain → Type 0
+ChainUpTo b c = LinksUpTo b (c .links) × EndUpTo b (c .end)
+
+chain-up-to : (d : ℕ) (W : List ℕ) (k : ℕ) → k ≤ length W / 4 → ChainUpTo (length W / 4) (chainAfter d W k)
+unfolding chainAfter
+chain-up-to zero W k h = step (eqb (nextOf W k) 0)
+  where
+    step : (b : Bool) → ChainUpTo (length W / 4) (record { links = []; end = cond b whole (broken k) })
+    step true = (tt, tt)
+    step false = (tt, h)
+chain-up-to (suc d) W k h = step (eqb (nextOf W k) 0) (ltb k (nextOf W k)) (ltb (nextOf W k) (length W / 4)) refl (chain-up-to d W (nextOf W k))
+  where
+    step : (none above below : Bool) → ltb (nextOf W k) (length W / 4) ≡ below
+        → (nextOf W k ≤ length W / 4 → ChainUpTo (length W / 4) (chainAfter d W (nextOf W k)))
+        → ChainUpTo (length W / 4) (elim none as (λ b. Chain) [
+          | true ↦ record { links = []; end = whole }
+          | false ↦ elim (above && below) as (λ b. Chain) [
+            | true ↦ before (record { index = nextOf W k; at = recordAt W (nextOf W k) }) (chainAfter d W (nextOf W k))
+            | false ↦ record { links = []; end = broken k }
+          ]
+        ])
+    step true above below e rest = (tt, tt)
+    step false false below e rest = (tt, h)
+    step false true false e rest = (tt, h)
+    step false true true e rest =
+        let low = ltb-true (nextOf W k) (length W / 4) e in
+        let r = rest (omega arith) in
+        ((omega arith, r .0), r .1)
+
+links-small : (b N n s : ℕ) (g : Progress) (ls : List Link) (e : End) → LinksUpTo b ls → EndUpTo b e → SmallVerdict b (checkLinks N n s g ls e)
+unfolding checkLinks
+links-small b N n s g [] whole ls e = step (complete N s g)
+  where
+    step : (c : Bool) → SmallVerdict b (cond c fine (Check.refusal 13 0))
+    step true = tt
+    step false = omega arith
+links-small b N n s g [] (broken k) ls e = omega arith
+links-small b N n s g (l ∷ ls) end (h, hs) e =
+    step (formed (kindOf (l .at .kind)) (l .at .p) (l .at .q)) (inOrder (kindOf (l .at .kind)) (g .target)) (inTurn N n s (kindOf (l .at .kind)) (l .at .p) (l .at .q) g)
+    (links-small b N n s (onward (kindOf (l .at .kind)) g) ls end hs e)
+  where
+    rest : Verdict
+    rest = checkLinks N n s (onward (kindOf (l .at .kind)) g) ls end
+
+    step : (f o t : Bool) → SmallVerdict b rest → SmallVerdict b (elim f as (λ b. Verdict) [
+      | false ↦ Check.refusal 10 (l .index)
+      | true ↦ elim o as (λ b. Verdict) [ false ↦ Check.refusal 11 (l .index) | true ↦ elim t as (λ b. Verdict) [ false ↦ Check.refusal 12 (l .index) | true ↦ rest ] ]
+    ])
+    step false o t r = omega arith
+    step true false t r = omega arith
+    step true true false r = omega arith
+    step true true true r = r
+
+-- a program's record count bounds what its check answers
+pub check-small : (W : List ℕ) → SmallVerdict (length W / 4) (check W)
+unfolding check chain
+check-small W =
+    step (ltb 0 (length W) && (eqb (length W % 4) 0 && leb (length W / 4) 100000000))
+    (isOrder (word W 0) && (leb (word W 1) (word W 0 * word W 0) && (leb (word W 0) (word W 2) && leb (word W 2) (word W 0 * word W 0))))
+    (chain-up-to (length W / 4) W 0 (omega arith))
+  where
+    linked : Chain
+    linked = chainAfter (length W / 4) W 0
+
+    rest : Verdict
+    rest = checkLinks (word W 0) (word W 1) (word W 2) begun (linked .links) (linked .end)
+
+    step : (c h : Bool) → ChainUpTo (length W / 4) linked
+        → SmallVerdict (length W / 4) (elim c as (λ b. Verdict) [ false ↦ Check.refusal 7 0 | true ↦ elim h as (λ b. Verdict) [ false ↦ Check.refusal 8 0 | true ↦ rest ] ])
+    step false h up = omega arith
+    step true false up = omega arith
+    step true true up = links-small (length W / 4) (word W 0) (word W 1) (word W 2) begun (linked .links) (linked .end) (up .0) (up .1)
+
+pub check-file-small : (bytes : List ℕ) → SmallVerdict (length bytes) (checkFile bytes)
+unfolding checkFile
+check-file-small bytes = step (eqb (length bytes % 4) 0)
+  where
+    wider : (v : Verdict) → SmallVerdict (length (wordsOf bytes) / 4) v → SmallVerdict (length bytes) v
+    wider fine s = tt
+    wider (Check.refusal r d) s = omega (arith, words-length bytes)
+
+    step : (b : Bool) → SmallVerdict (length bytes) (elim b as (λ b. Verdict) [ false ↦ Check.refusal 18 0 | true ↦ check (wordsOf bytes) ])
+    step false = omega arith
+    step true = wider (check (wordsOf bytes)) (check-small (wordsOf bytes))
+
+-- ---- the file calls
+
+abbrev pub SmallFiled : ℕ → Filed → Type 0
+SmallFiled b (filed k) = k ≤ b
+SmallFiled b (File.refusal r d) = Small b r d
+
+pub writes-small : (words bytes : ℕ) → SmallFiled (4 * words) (writes words bytes)
+unfolding writes
+writes-small words bytes = step (leb words 400000000) (leb (4 * words) bytes)
+  where
+    step : (c d : Bool) → SmallFiled (4 * words) (elim c as (λ b. Filed) [
+      | false ↦ File.refusal 7 0
+      | true ↦ elim d as (λ b. Filed) [ false ↦ File.refusal 19 (4 * words) | true ↦ filed (4 * words) ]
+    ])
+    step false d = omega arith
+    step true false = omega arith
+    step true true = omega arith
+
+pub reads-small : (bytes words : ℕ) → SmallFiled bytes (reads bytes words)
+unfolding reads
+reads-small bytes words = step (eqb (bytes % 4) 0) (leb (bytes / 4) words)
+  where
+    step : (c d : Bool) → SmallFiled bytes (elim c as (λ b. Filed) [
+      | false ↦ File.refusal 18 0
+      | true ↦ elim d as (λ b. Filed) [ false ↦ File.refusal 19 (bytes / 4) | true ↦ filed (bytes / 4) ]
+    ])
+    step false d = omega arith
+    step true false = omega arith
+    step true true = omega arith
+
+-- ---- the compiler
+
+abbrev pub SmallCompiled : ℕ → Compiled → Type 0
+SmallCompiled b (written s p r) = Unit {0}
+SmallCompiled b (Compile.refusal r d) = Small b r d
+
+-- a bad label's refusal is 3 or 4, and its position is one of the plan's
+judged-small : (N before k : ℕ) (L : Plan) (r d : ℕ) → judged N before k L ≡ bad r d → Small (k + length L) r d
+unfolding judged
+judged-small N before k [] r d e = let z : _≡_ {A = ℕ} 0 1 = cc in absurd (omega arith)
+judged-small N before k (x ∷ L) r d e = step (within x (N * N)) (ltb before x) (judged-small N x (suc k) L r d) e
+  where
+    step : (w a : Bool) → (judged N x (suc k) L ≡ bad r d → Small (suc k + length L) r d)
+        → elim w as (λ b. Labels) [ false ↦ bad 3 k | true ↦ elim a as (λ b. Labels) [ false ↦ bad 4 k | true ↦ judged N x (suc k) L ] ] ≡ bad r d
+        → Small (k + suc (length L)) r d
+    step false a rest e = let r : 3 ≡ r = cc in let d : k ≡ d = cc in omega arith
+    step true false rest e = let r : 4 ≡ r = cc in let d : k ≡ d = cc in omega arith
+    step true true rest e = omega (arith, rest e)
+
+pub compiles-small : (N : ℕ) (L : Plan) (work words : ℕ) → SmallCompiled (100000000 + length L) (compiles N L work words)
+unfolding compilesBy
+compiles-small N L work words =
+    rw (compiles-is N L work words)
+    (step (isOrder N) (leb (N * N) work) (judged N 0 1 L) (eqb (missing N L) 0) (leb (4 * recordCount N L) words) refl refl refl)
+  where
+    done : Compiled
+    done = written (slots N L) (productCount N L) (recordCount N L)
+
+    step : (order room : Bool) (labels : Labels) (pivots fits : Bool) → isOrder N ≡ order → judged N 0 1 L ≡ labels → eqb (missing N L) 0 ≡ pivots
+        → SmallCompiled (100000000 + length L) (compilesBy order room labels pivots fits (N * N) (missing N L) (recordCount N L) done)
+    step false room labels pivots fits o j v = omega arith
+    step true false labels pivots fits o j v = let n = within-range N 600 o .1 in omega (arith, mul-le-mul {n₂ = 600} {m₂ = 600} n n)
+    step true true (bad r d) pivots fits o j v = omega (arith, judged-small N 0 1 L r d j)
+    step true true good false fits o j v = omega (arith, within-range N 600 o .1, missing-free N L (eqb-false (missing N L) 0 v) .high)
+    step true true good true false o j v = omega (arith, records-at-most N L (within-range N 600 o .1))
+    step true true good true true o j v = tt
+
+-- ---- the run
+
+abbrev pub SmallReply : ℕ → Reply → Type 0
+SmallReply b (solves products quotients) = Unit {0}
+SmallReply b (stops r index t k) = Small b r index
+SmallReply b (refuses r d) = Small b r d
+
+abbrev SmallStep : Stepped → Type 0
+SmallStep (going z) = Unit {0}
+SmallStep (stop r) = r ≤ 20
+
+settled-small : (a : Answer) (f : Float → State) → SmallStep (settledStep a f)
+settled-small (number v) f = tt
+settled-small overflow f = omega arith
+settled-small zeroDivisor f = omega arith
+
+step-small : (A B : List Float) (z : State) (k : Kind) (p q : ℕ) → SmallStep (step A B z k p q)
+unfolding step
+step-small A B z (opens C) p q = tt
+step-small A B z (opens Y) p q = tt
+step-small A B z (opens X) p q = tt
+step-small A B z (subtracts t) p q = settled-small (less (z .running) (entry (z .tables) C p) (entry (z .tables) t q)) (subtracted z)
+step-small A B z divides p q = settled-small (quotient (z .running) (entry (z .tables) C p)) (dividedBy z)
+step-small A B z closes p q = tt
+step-small A B z closesPivot p q = test (isZero (z .running))
+  where
+    test : (b : Bool) → SmallStep (cond b (stop 17) (going (closing z)))
+    test true = omega arith
+    test false = tt
+step-small A B z none p q = tt
+
+follow-small : (b : ℕ) (A B : List Float) (z : State) (ls : List Link) → LinksUpTo b ls → SmallReply b (reply (follow A B z ls))
+unfolding follow reply
+follow-small b A B z [] up = tt
+follow-small b A B z (l ∷ ls) up =
+    go (step A B z (kindOf (l .at .kind)) (l .at .p) (l .at .q)) (step-small A B z (kindOf (l .at .kind)) (l .at .p) (l .at .q)) (λ y. follow-small b A B y ls (up .1))
+  where
+    go : (s : Stepped) → SmallStep s → ((y : State) → SmallReply b (reply (follow A B y ls)))
+        → SmallReply b (reply (elim s as (λ s. Outcome) [ going y ↦ follow A B y ls | stop r ↦ stopped r (l .index) (z .table) (z .target) ]))
+    go (going y) small rest = rest y
+    go (stop r) small rest = omega arith
+
+-- the position of a value that isn't finite is one of its list's
+not-finite-small : (k : ℕ) (vs : List Float) → notFinite k vs ≤ k + length vs
+unfolding notFinite
+not-finite-small k [] = omega arith
+not-finite-small k (v ∷ vs) = go (isFinite v) (not-finite-small (suc k) vs)
+  where
+    go : (b : Bool) → notFinite (suc k) vs ≤ suc k + length vs → cond b (notFinite (suc k) vs) k ≤ k + suc (length vs)
+    go true h = omega arith
+    go false h = omega arith
+
+pub ran-small : (W : List ℕ) (A B : List Float) (c y x : ℕ) → SmallReply (1 + length W + length A + length B) (reply (ran W A B c y x))
+unfolding ranBy reply chain
+ran-small W A B c y x = rw (ran-is W A B c y x) (go (check W) (check-small W))
+  where
+    wider : (r : Reply) → SmallReply (length W / 4) r → SmallReply (1 + length W + length A + length B) r
+    wider (solves p q) s = tt
+    wider (stops r k t n) s = omega arith
+    wider (refuses r d) s = omega arith
+
+    up : LinksUpTo (length W / 4) (chain W .links)
+    up = chain-up-to (length W / 4) W 0 (omega arith) .0
+
+    go : (v : Verdict) → SmallVerdict (length W / 4) v → SmallReply (1 + length W + length A + length B) (reply (ranBy W A B c y x v))
+    go (Check.refusal r d) s = omega arith
+    go fine s =
+        gated-each (refusedBy 14 0) (refusedBy 15) (λ o. SmallReply (1 + length W + length A + length B) (reply o))
+        (lengthsRight (word W 0) (word W 1) (word W 2) (length A) (length B) c y x) (notFinite 1 A) (notFinite 1 B) (follow A B (fresh (word W 0)) (chain W .links)) (omega arith)
+        (omega (arith, not-finite-small 1 A)) (omega (arith, not-finite-small 1 B))
+        (wider (reply (follow A B (fresh (word W 0)) (chain W .links))) (follow-small (length W / 4) A B (fresh (word W 0)) (chain W .links) up))
