@@ -2,7 +2,7 @@
 use Prim.Native.Nat.{ℕ, zero, suc, _+_, _-_, _≤_, _<_}
 use native.Mathlib.Omega.{arith}
 use mathlib.Core.Path.{_≡_, refl, sym, subst}
-use mathlib.Core.Bool.{Bool, true, false, not, _&&_, and-comm, and-false, and-eq-true-iff}
+use mathlib.Core.Bool.{Bool, true, false, cond, not, _&&_, and-comm, and-false, and-eq-true-iff}
 use lib.Dec.{leb, ltb, eqb}
 use borrow.Author.Tests.{lt-ltb, le-ltb, ltb-true, ltb-false, leb-true, ne-eqb}
 use Rattle.model.specs.Label.{within}
@@ -11,7 +11,7 @@ use Rattle.model.specs.Check as Check
 use Rattle.model.specs.Check.{Open, idle, busy, Kind, opens, subtracts, divides, closes, closesPivot, none, kindOf, formed, inOrder, inTurn, counted, onward, isIdle}
 use Rattle.checker.specs.declared.Head.{Head}
 use Rattle.checker.specs.declared.Progress.{Progress}
-use Rattle.checker.specs.Steps.{openOf, openNumber, progressOf, total, Judged, on, refused, picked, judged, stepped}
+use Rattle.checker.specs.Steps.{openOf, openNumber, progressOf, total, firstOf, refusalOf}
 
 -- a number in a range from 1
 pub within-true : (k n : ℕ) → within k n ≡ true → (0 < k) × (k ≤ n)
@@ -70,28 +70,13 @@ counted-total (busy C) g = omega arith
 counted-total (busy Y) g = omega arith
 counted-total (busy X) g = omega arith
 
-onward-total : (k : Kind) (g : Check.Progress) → total (onward k g) ≤ suc (total g)
+pub onward-total : (k : Kind) (g : Check.Progress) → total (onward k g) ≤ suc (total g)
 onward-total (opens t) g = omega arith
 onward-total (subtracts t) g = omega arith
 onward-total divides g = omega arith
 onward-total closes g = counted-total (g .target) g
 onward-total closesPivot g = counted-total (g .target) g
 onward-total none g = omega arith
-
--- how much is closed after a record, nothing where it is refused
-abbrev pub totalAfter : Judged → ℕ
-totalAfter (on g) = total g
-totalAfter (refused r) = 0
-
-pub judged-total : (N n s : ℕ) (g : Check.Progress) (k : Kind) (p q : ℕ) → totalAfter (judged N n s g k p q) ≤ suc (total g)
-unfolding judged picked
-judged-total N n s g k p q = step (formed k p q) (inOrder k (g .target)) (inTurn N n s k p q g)
-  where
-    step : (f o t : Bool) → totalAfter (picked f o t (onward k g)) ≤ suc (total g)
-    step false o t = omega arith
-    step true false t = omega arith
-    step true true false = omega arith
-    step true true true = onward-total k g
 
 -- kinds 4 to 6 subtract into the table whose number is three less
 pub record Subtracting (kind : ℕ) : Type 0 where
@@ -120,12 +105,37 @@ no-kind kind high =
     let other : (k : ℕ) → k < 10 → eqb kind k ≡ false = λ k low. ne-eqb kind k (λ e. omega arith) in
     rw (other 1 (omega arith), other 2 (omega arith), other 3 (omega arith), other 4 (omega arith), other 5 (omega arith), other 6 (omega arith), other 7 (omega arith), other 8 (omega arith), other 9 (omega arith))
 
--- one kind's tests give the judgement of a record of that kind
+-- one kind's tests give the refusal of a record of that kind
 module _ (h : Head) (g : Progress) (kind p q : ℕ) (k : Kind) (is : kindOf kind ≡ k) where
-  pub arm : {f o t : Bool} {next : Check.Progress} → f ≡ formed k p q → o ≡ inOrder k (openOf (g .target))
-      → t ≡ inTurn (h .order) (h .coefficients) (h .slots) k p q (progressOf g) → next ≡ onward k (progressOf g) → picked f o t next ≡ stepped h g kind p q
-  unfolding judged
-  arm ef eo et en = cc
+  pub arm : {f o t : Bool} → f ≡ formed k p q → o ≡ inOrder k (openOf (g .target)) → t ≡ inTurn (h .order) (h .coefficients) (h .slots) k p q (progressOf g)
+      → firstOf f o t ≡ refusalOf h g kind p q
+  arm ef eo et = cc
+
+-- kinds 8 and 9 close what is open
+pub onward-closes : (kind : ℕ) (g : Check.Progress) → 8 ≤ kind → kind < 10 → counted (g .target) g ≡ onward (kindOf kind) g
+unfolding kindOf
+onward-closes kind g low high =
+    let is : 8 + (kind - 8) ≡ kind = omega arith in
+    subst (λ k. counted (g .target) g ≡ onward (kindOf k) g) is (step (kind - 8) (omega arith))
+  where
+    step : (d : ℕ) → d < 2 → counted (g .target) g ≡ onward (kindOf (8 + d)) g
+    step zero h = refl
+    step (suc zero) h = refl
+    step (suc (suc d)) h = absurd (omega arith)
+
+-- kinds that neither open nor close change nothing
+pub onward-same : (kind : ℕ) (g : Check.Progress) → (kind ≡ 1 → ⊥) → (kind ≡ 2 → ⊥) → (kind ≡ 3 → ⊥) → (kind ≡ 8 → ⊥) → (kind ≡ 9 → ⊥) → g ≡ onward (kindOf kind) g
+unfolding kindOf
+onward-same kind g n1 n2 n3 n8 n9 =
+    rw (ne-eqb kind 1 n1, ne-eqb kind 2 n2, ne-eqb kind 3 n3, ne-eqb kind 8 n8, ne-eqb kind 9 n9) (step (eqb kind 4) (eqb kind 5) (eqb kind 6) (eqb kind 7))
+  where
+    step : (four five six seven : Bool)
+        → g ≡ onward (cond four (subtracts C) (cond five (subtracts Y) (cond six (subtracts X) (cond seven divides none)))) g
+    step true five six seven = refl
+    step false true six seven = refl
+    step false false true seven = refl
+    step false false false true = refl
+    step false false false false = refl
 
 -- 12 of kind 3, whose tests stand in another order
 pub opens-x-turn : (h : Head) (g : Progress) (p : ℕ) → within p (g .y) && eqb (p + g .x) (h .order) ≡ inTurn (h .order) (h .coefficients) (h .slots) (opens X) p 0 (progressOf g)

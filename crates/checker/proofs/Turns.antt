@@ -4,31 +4,30 @@ use native.Mathlib.Omega.{arith}
 use mathlib.Core.Path.{_≡_, refl, sym, ap, ap₂, subst, _∙_}
 use mathlib.Core.Bool.{Bool, true, false, _&&_, and-eq-true-iff}
 use mathlib.Core.List.{List, _∷_}
-use lib.Dec.{ltb}
+use lib.Dec.{ltb, eqb}
 use lib.ListN.{length}
-use borrow.Author.Tests.{ltb-true}
+use borrow.Author.Tests.{ltb-true, eq-eqb, ne-eqb}
 use Rattle.model.specs.Check as Check
-use Rattle.model.specs.Check.{word, recordAt, nextOf, whole, broken, Link, End, Chain, Verdict, refusal, kindOf, formed, inOrder, inTurn, onward, atEnd, checkLinks}
+use Rattle.model.specs.Check.{word, nextOf, whole, broken, Link, End, Chain, Verdict, refusal, kindOf, formed, inOrder, inTurn, onward, atEnd, checkLinks}
 use Rattle.model.proofs.Following.{chainFrom, chain-from, chain-ends, chain-breaks, chain-goes, check-ended, check-link}
 use Rattle.checker.specs.declared.Head.{Head}
 use Rattle.checker.specs.declared.Progress.{Progress}
-use Rattle.checker.specs.declared.Stepped.{Stepped}
-use Rattle.checker.specs.declared.Stepped.the-variants.{On, Refused}
-use Rattle.checker.specs.Steps.{progressOf, total, Judged, on, refused, judgedOf, picked, judged, stepped, followed}
-use Rattle.checker.proofs.Judging.{totalAfter, judged-total}
+use Rattle.checker.specs.Steps.{progressOf, total, firstOf, refusalOf, followed}
+use Rattle.checker.proofs.Judging.{onward-total}
 
--- the check of a chain after a record, by what that leads to
-abbrev afterLink : ℕ → ℕ → ℕ → Link → List Link → End → Judged → Verdict
-afterLink N n s l ls e (on g) = checkLinks N n s g ls e
-afterLink N n s l ls e (refused r) = refusal r (l .index)
+-- what follows a record k that is refused by r, or not if r is 0
+abbrev unless : ℕ → ℕ → Verdict → Verdict
+unless r k v = elim (eqb r 0) [ true ↦ v | false ↦ refusal r k ]
+
+unless-none : (r k : ℕ) (v : Verdict) → r ≡ 0 → unless r k v ≡ v
+unless-none r k v e = rw (unless, eq-eqb r 0 e)
+
+unless-some : (r k : ℕ) (v : Verdict) → (r ≡ 0 → ⊥) → unless r k v ≡ refusal r k
+unless-some r k v other = rw (unless, ne-eqb r 0 other)
 
 -- the check from record k on, where g is the progress after it
 abbrev pub rest : Head → List ℕ → Check.Progress → ℕ → Verdict
 rest h W g k = checkLinks (h .order) (h .coefficients) (h .slots) g (chainFrom W k .links) (chainFrom W k .end)
-
--- the same by what record k leads to
-abbrev after : Head → List ℕ → ℕ → Judged → Verdict
-after h W k j = afterLink (h .order) (h .coefficients) (h .slots) (record { index = k; at = recordAt W k }) (chainFrom W k .links) (chainFrom W k .end) j
 
 -- what holds at the head of a loop: what is to be answered is the check from record k on, and no more entries are closed than records passed
 pub record Going (h : Head) (W : List ℕ) (g : Progress) (k : ℕ) : Type 0 where
@@ -42,18 +41,19 @@ next-true k n records e =
     let both = and-eq-true-iff (ltb k n) (ltb n records) .0 e in
     (ltb-true k n (both .0), ltb-true n records (both .1))
 
--- one turn: record k names n as next, and r is what a step makes of record n
-pub record Turn (h : Head) (W : List ℕ) (g : Progress) (k n : ℕ) (r : Stepped) : Type 0 where
+-- one turn: record k names n as next, and r is the refusal of record n, or 0
+pub record Turn (h : Head) (W : List ℕ) (g : Progress) (k n r : ℕ) : Type 0 where
   pub here : Going h W g k
   pub is : n ≡ nextOf W k
   pub up : k < n
   pub low : n < length W / 4
-  pub step-is : judgedOf r ≡ stepped h g (word W (4 * n)) (word W (4 * n + 1)) (word W (4 * n + 2))
+  pub refusal-is : r ≡ refusalOf h g (word W (4 * n)) (word W (4 * n + 1)) (word W (4 * n + 2))
 
--- the check of a chain is its first record's judgement, and then the rest
-link-judged : (N n s : ℕ) (g : Check.Progress) (l : Link) (ls : List Link) (e : End)
-    → checkLinks N n s g (l ∷ ls) e ≡ afterLink N n s l ls e (judged N n s g (kindOf (l .at .kind)) (l .at .p) (l .at .q))
-unfolding judged picked
+-- the check of a chain is its first record's, and then the rest
+link-judged : (N n s : ℕ) (g : Check.Progress) (l : Link) (ls : List Link) (e : End) → let k = kindOf (l .at .kind) in
+    checkLinks N n s g (l ∷ ls) e
+    ≡ unless (firstOf (formed k (l .at .p) (l .at .q)) (inOrder k (g .target)) (inTurn N n s k (l .at .p) (l .at .q) g)) (l .index) (checkLinks N n s (onward k g) ls e)
+unfolding firstOf
 link-judged N n s g l ls e =
     let k = kindOf (l .at .kind) in
     check-link N n s g l ls e ∙ step (formed k (l .at .p) (l .at .q)) (inOrder k (g .target)) (inTurn N n s k (l .at .p) (l .at .q) g)
@@ -61,7 +61,7 @@ link-judged N n s g l ls e =
     step : (f o t : Bool) → elim f [
       | false ↦ refusal 10 (l .index)
       | true ↦ elim o [ false ↦ refusal 11 (l .index) | true ↦ elim t [ false ↦ refusal 12 (l .index) | true ↦ checkLinks N n s (onward (kindOf (l .at .kind)) g) ls e ] ]
-    ] ≡ afterLink N n s l ls e (picked f o t (onward (kindOf (l .at .kind)) g))
+    ] ≡ unless (firstOf f o t) (l .index) (checkLinks N n s (onward (kindOf (l .at .kind)) g) ls e)
     step false o t = refl
     step true false t = refl
     step true true false = refl
@@ -88,25 +88,26 @@ module _ (h : Head) (W : List ℕ) where
         sym (here .same ∙ ap (along (progressOf g)) (chain-breaks W k (λ e. some (is ∙ e)) refused) ∙ check-ended _ _ _ (progressOf g) (broken k))
 
     links : k < nextOf W k → nextOf W k < length W / 4
-        → followed h W ≡ after h W (nextOf W k) (stepped h g (word W (4 * nextOf W k)) (word W (4 * nextOf W k + 1)) (word W (4 * nextOf W k + 2)))
+        → followed h W ≡ unless (refusalOf h g (word W (4 * nextOf W k)) (word W (4 * nextOf W k + 1)) (word W (4 * nextOf W k + 2))) (nextOf W k)
+        (rest h W (onward (kindOf (word W (4 * nextOf W k))) (progressOf g)) (nextOf W k))
     unfolding along
     links up low = here .same ∙ ap (along (progressOf g)) (chain-goes W k up low) ∙ link-judged _ _ _ (progressOf g) _ _ _
 
-  module _ (g : Progress) (k n : ℕ) (r : Stepped) (t : Turn h W g k n r) where
-    turned : followed h W ≡ after h W n (judgedOf r)
+  module _ (g : Progress) (k n r : ℕ) (t : Turn h W g k n r) where
+    turned : followed h W ≡ unless r n (rest h W (onward (kindOf (word W (4 * n))) (progressOf g)) n)
     turned =
-        subst (λ m. followed h W ≡ after h W m (stepped h g (word W (4 * m)) (word W (4 * m + 1)) (word W (4 * m + 2)))) (sym (t .is)) (links g k (t .here) (omega arith) (omega arith))
-        ∙ ap (after h W n) (sym (t .step-is))
+        subst (λ m. followed h W ≡ unless (refusalOf h g (word W (4 * m)) (word W (4 * m + 1)) (word W (4 * m + 2))) m (rest h W (onward (kindOf (word W (4 * m))) (progressOf g)) m))
+        (sym (t .is)) (links g k (t .here) (omega arith) (omega arith))
+        ∙ ap (λ r. unless r n (rest h W (onward (kindOf (word W (4 * n))) (progressOf g)) n)) (sym (t .refusal-is))
 
-    pub goes-on : (g′ : Progress) → r ≡ On g′ → Going h W g′ n
-    goes-on g′ e =
-        let more = judged-total (h .order) (h .coefficients) (h .slots) (progressOf g) (kindOf (word W (4 * n))) (word W (4 * n + 1)) (word W (4 * n + 2)) in
-        let few : total (progressOf g′) ≤ n = omega (arith, more, ap totalAfter (t .step-is), ap (λ r. totalAfter (judgedOf r)) e) in
-        record { same = turned ∙ ap (λ r. after h W n (judgedOf r)) e; inside = t .low; few = few }
+    pub goes-on : r ≡ 0 → (g′ : Progress) → progressOf g′ ≡ onward (kindOf (word W (4 * n))) (progressOf g) → Going h W g′ n
+    goes-on none g′ e =
+        let few : total (progressOf g′) ≤ n = omega (arith, onward-total (kindOf (word W (4 * n))) (progressOf g), ap total e) in
+        record { same = turned ∙ unless-none r n _ none ∙ ap (λ m. rest h W m n) (sym e); inside = t .low; few = few }
 
-    pub stops : (m : ℕ) → r ≡ Refused m → refusal m n ≡ followed h W
-    stops m e = sym (turned ∙ ap (λ r. after h W n (judgedOf r)) e)
+    pub stops : (r ≡ 0 → ⊥) → refusal r n ≡ followed h W
+    stops some = sym (turned ∙ unless-some r n _ some)
 
--- equal numbers are judged equally
-pub step-same : (h : Head) (g : Progress) {kind p q kind′ p′ q′ : ℕ} → kind ≡ kind′ → p ≡ p′ → q ≡ q′ → stepped h g kind p q ≡ stepped h g kind′ p′ q′
-step-same h g ek ep eq = cc
+-- equal numbers are refused equally
+pub refusal-same : (h : Head) (g : Progress) {kind p q kind′ p′ q′ : ℕ} → kind ≡ kind′ → p ≡ p′ → q ≡ q′ → refusalOf h g kind p q ≡ refusalOf h g kind′ p′ q′
+refusal-same h g ek ep eq = cc

@@ -6,13 +6,11 @@ use lib.Dec.{leb, ltb, eqb}
 use Rattle.model.specs.Label.{isOrder}
 use Rattle.model.specs.Formula.{C, Y, X, numberOf}
 use Rattle.model.specs.Check as Check
-use Rattle.model.specs.Check.{idle, busy, kindOf, formed, inOrder, inTurn, onward, checkLinks, chain, Verdict}
+use Rattle.model.specs.Check.{idle, busy, kindOf, formed, inOrder, inTurn, checkLinks, chain, Verdict}
 use Rattle.checker.specs.declared.Target.{Target}
 use Rattle.checker.specs.declared.Target.the-variants as Target
 use Rattle.checker.specs.declared.Progress.{Progress}
 use Rattle.checker.specs.declared.Head.{Head}
-use Rattle.checker.specs.declared.Stepped.{Stepped}
-use Rattle.checker.specs.declared.Stepped.the-variants.{On, Refused}
 
 abbrev pub openOf : Target → Check.Open
 openOf Target.Nothing = idle
@@ -32,28 +30,17 @@ progressOf g = record { target = openOf (g .target); c = g .c; y = g .y; x = g .
 abbrev pub total : Check.Progress → ℕ
 total g = g .c + g .y + g .x
 
--- what a record leads to: the progress after it, or the number of its refusal
-pub data Judged : Type 0 where
-  on : Check.Progress → Judged
-  refused : ℕ → Judged
+-- 10, then 11, then 12; 0 if none
+unfoldable pub firstOf : Bool → Bool → Bool → ℕ
+firstOf false ordered turned = 10
+firstOf true false turned = 11
+firstOf true true false = 12
+firstOf true true true = 0
 
-abbrev pub judgedOf : Stepped → Judged
-judgedOf (On g) = on (progressOf g)
-judgedOf (Refused number) = refused number
-
--- 10, then 11, then 12
-unfoldable pub picked : Bool → Bool → Bool → Check.Progress → Judged
-picked false ordered turned g = refused 10
-picked true false turned g = refused 11
-picked true true false g = refused 12
-picked true true true g = on g
-
-unfoldable pub judged : ℕ → ℕ → ℕ → Check.Progress → Check.Kind → ℕ → ℕ → Judged
-judged N n s g k p q = picked (formed k p q) (inOrder k (g .target)) (inTurn N n s k p q g) (onward k g)
-
--- a record of any kind, by record 0's N, n and s
-abbrev pub stepped : Head → Progress → ℕ → ℕ → ℕ → Judged
-stepped h g kind p q = judged (h .order) (h .coefficients) (h .slots) (progressOf g) (kindOf kind) p q
+-- the number of the refusal of a record of any kind, 0 if none, by record 0's N, n and s
+abbrev pub refusalOf : Head → Progress → ℕ → ℕ → ℕ → ℕ
+refusalOf h g kind p q =
+    firstOf (formed (kindOf kind) p q) (inOrder (kindOf kind) (openOf (g .target))) (inTurn (h .order) (h .coefficients) (h .slots) (kindOf kind) p q (progressOf g))
 
 -- 7: a count of words that a program can have
 abbrev pub countFits : ℕ → Bool

@@ -10,9 +10,10 @@ ghost use Rattle.model.specs.Check.{word, opens, kindOf, inTurn, counted, whole
 ghost use Rattle.model.specs.Check.{check as Check·check};
 ghost use Rattle.model.specs.Check.{complete as Check·complete};
 ghost use Rattle.model.specs.Check.{begun as Check·begun};
+ghost use Rattle.model.specs.Check.{onward as Check·onward};
 ghost use Rattle.model.specs.File.{wordsOf, checkFile};
 ghost use Rattle.checker.specs.Checked.{verdictOf};
-ghost use Rattle.checker.specs.Steps.{openOf, openNumber, progressOf, total, judgedOf, picked, stepped, countFits, headFits, followed};
+ghost use Rattle.checker.specs.Steps.{openOf, openNumber, progressOf, total, firstOf, refusalOf, countFits, headFits, followed};
 
 // What a check answers: nothing wrong, or a refusal's number and its detail.
 pub enum Checked {
@@ -41,12 +42,6 @@ struct Progress {
     c: u32,
     y: u32,
     x: u32,
-}
-
-// What a record leads to: the progress after it, or the number of its refusal.
-enum Stepped {
-    On(Progress),
-    Refused(u32),
 }
 
 // Checks 7 to 13 of a program.
@@ -139,13 +134,15 @@ fn follow_words(words: &[u32], h: Head) -> Checked
         }
         k = next;
         let at = 4 * k;
-        match step(h, g, words[at], words[at + 1], words[at + 2]) {
-            Stepped::On(after) => g = after,
-            Stepped::Refused(number) => return Checked::Refused {
+        let kind = words[at];
+        let number = judge(h, g, kind, words[at + 1], words[at + 2]);
+        if number != 0 {
+            return Checked::Refused {
                 number,
                 detail: k as u64,
-            },
+            };
         }
+        g = onward(kind, g);
     }
 }
 
@@ -170,19 +167,15 @@ fn follow_bytes(bytes: &[u8], h: Head) -> Checked
         }
         k = next;
         let at = 4 * k;
-        match step(
-            h,
-            g,
-            word_at(bytes, at),
-            word_at(bytes, at + 1),
-            word_at(bytes, at + 2),
-        ) {
-            Stepped::On(after) => g = after,
-            Stepped::Refused(number) => return Checked::Refused {
+        let kind = word_at(bytes, at);
+        let number = judge(h, g, kind, word_at(bytes, at + 1), word_at(bytes, at + 2));
+        if number != 0 {
+            return Checked::Refused {
                 number,
                 detail: k as u64,
-            },
+            };
         }
+        g = onward(kind, g);
     }
 }
 
@@ -239,39 +232,53 @@ fn begun() -> Progress
     }
 }
 
-// 10 to 12 of one record, and the progress after it.
-fn step(h: Head, g: Progress, kind: u32, p: u32, q: u32) -> Stepped
+// The number of a record's refusal, 10 to 12, or 0: a number, and no enum with the next progress, since it comes back in a register.
+fn judge(h: Head, g: Progress, kind: u32, p: u32, q: u32) -> u32
     requires { ⌜ total (progressOf g) ≤ 100000000 ⌝ }
-    ensures { λ r. ⌜ judgedOf r ≡ stepped h g kind p q ⌝ }
+    ensures { λ r. ⌜ r ≡ refusalOf h g kind p q ⌝ }
 {
     let target = g.target;
     let open = open_number(target);
     match kind {
-        1 => settle(true, open == 0, turn_of_c(h, g, p, q), opened(g, Target::C)),
-        2 => settle(q == 0, open == 0, turn_of_y(h, g, p), opened(g, Target::Y)),
-        3 => settle(q == 0, open == 0, turn_of_x(h, g, p), opened(g, Target::X)),
-        4 | 5 | 6 => settle(true, open == kind - 3, readable(h, g, kind, p, q), g),
-        7 => settle(q == 0, open != 0, within(p, g.c), g),
-        8 => settle(unused(p, q), open != 0, true, closed(g)),
-        9 => settle(unused(p, q), open == 1, true, closed(g)),
-        0 | 10..=u32::MAX => Stepped::Refused(10),
+        1 => first_of(true, open == 0, turn_of_c(h, g, p, q)),
+        2 => first_of(q == 0, open == 0, turn_of_y(h, g, p)),
+        3 => first_of(q == 0, open == 0, turn_of_x(h, g, p)),
+        4 | 5 | 6 => first_of(true, open == kind - 3, readable(h, g, kind, p, q)),
+        7 => first_of(q == 0, open != 0, within(p, g.c)),
+        8 => first_of(unused(p, q), open != 0, true),
+        9 => first_of(unused(p, q), open == 1, true),
+        0 | 10..=u32::MAX => 10,
     }
 }
 
-// 10, then 11, then 12, by the tests that a kind makes.
-fn settle(formed: bool, ordered: bool, turned: bool, after: Progress) -> Stepped
-    ensures { λ r. ⌜ judgedOf r ≡ picked formed ordered turned (progressOf after) ⌝ }
+// 10, then 11, then 12, by the tests that a kind makes; 0 if all hold.
+fn first_of(formed: bool, ordered: bool, turned: bool) -> u32
+    ensures { λ r. ⌜ r ≡ firstOf formed ordered turned ⌝ }
 {
     if !formed {
-        return Stepped::Refused(10);
+        return 10;
     }
     if !ordered {
-        return Stepped::Refused(11);
+        return 11;
     }
     if !turned {
-        return Stepped::Refused(12);
+        return 12;
     }
-    Stepped::On(after)
+    0
+}
+
+// The progress after a record: kinds 1 to 3 open a target, 8 and 9 close it.
+fn onward(kind: u32, g: Progress) -> Progress
+    requires { ⌜ total (progressOf g) ≤ 100000000 ⌝ }
+    ensures { λ r. ⌜ progressOf r ≡ Check·onward (kindOf kind) (progressOf g) ⌝ }
+{
+    match kind {
+        1 => opened(g, Target::C),
+        2 => opened(g, Target::Y),
+        3 => opened(g, Target::X),
+        8 | 9 => closed(g),
+        _ => g,
+    }
 }
 
 // The number of the open table, 0 if none is open.

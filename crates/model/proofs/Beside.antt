@@ -11,15 +11,7 @@ use Rattle.model.specs.Label.{label}
 use Rattle.model.specs.Fill.{Plan, held, slot}
 use Rattle.model.specs.Formula.{Formula}
 use Rattle.model.specs.Crout.{lower, forward, upper, backward, batch, formulas, denseFormulas, reducedFormulas}
-use Rattle.model.proofs.Labels.{Inside, label-lower, label-first, label-down, label-turn, label-right, label-next}
-
--- one past the last label
-label-end : (n : ℕ) → label n (suc n) (suc n) ≡ suc (n * n)
-label-end zero = label-first 0
-label-end (suc n) =
-    let a : suc (suc n) - 1 ≡ suc n = omega arith in
-    let b : 2 * suc n - suc (suc n) ≡ n = omega arith in
-    label-lower (suc n) (suc (suc n)) (suc (suc n)) (omega arith) ∙ rw (a, b) (omega arith)
+use Rattle.model.proofs.Labels.{Inside, label-first, label-end, label-down, label-turn, label-right, label-next}
 
 module _ (N : ℕ) (L : Plan) where
   -- the formula of place (i, j): of l on and below the diagonal, of u above it

@@ -9,7 +9,7 @@ use lib.Dec.{ltb}
 use Rattle.model.specs.Lists.{some}
 use Rattle.model.specs.Label.{label}
 use Rattle.model.specs.Fill.{Plan, position, heldWithin, held}
-use Rattle.model.proofs.Search.{some-true, some-false, some-same}
+use Rattle.model.proofs.Search.{some-none, some-true, some-false, some-same}
 
 module _ (N : ℕ) (L : Plan) where
   abbrev planned : ℕ → ℕ → Bool
@@ -53,3 +53,7 @@ module _ (N : ℕ) (L : Plan) where
   not-held i j e =
       let f = neither (planned i j) (paired (held N L) i j) .0 (rw (← held-is i j) e) in
       (omega (arith, ltb-false 0 (position L (label N i j)) (f .0)), λ h l a b. some-false _ (min i j - 1) (f .1) h l (omega arith))
+
+  -- neither in the plan nor by a pair
+  pub held-not : (i j : ℕ) → position L (label N i j) ≡ 0 → ((h : ℕ) → 1 ≤ h → h < min i j → (held N L i h && held N L h j) ≡ false) → held N L i j ≡ false
+  held-not i j out none = rw (held-is i j, out) (some-none _ (min i j - 1) (λ h low high. none h low (omega arith)))

@@ -6,7 +6,11 @@ pub mod Arith
 pub mod Labels
 pub mod Fill
 pub mod Slots
+pub mod Lines
+pub mod WorkNumbers
 pub mod Plans
+pub mod Pointer
+pub mod Judging
 pub mod Compiles
 pub mod Runs
 pub mod Bytes
@@ -21,6 +25,7 @@ pub mod Values
 pub mod Reduction
 pub mod Counts
 pub mod Bounds
+pub mod Batches
 pub mod Chain
 pub mod Checked
 pub mod Agreement

@@ -1,14 +1,15 @@
 -- `checker::follow_bytes` follows the chain of a program in a file, as `follow_words` does.
 use Prim.Native.Nat.{_-_, _/_, _<_}
-use mathlib.Core.Path.{_≡_, sym, _∙_}
+use mathlib.Core.Path.{_≡_, sym, ap, _∙_}
 use native.Mathlib.Omega.{arith}
 use borrow.Author.Needs.{needs}
 use borrow.Author.Tests.{not-true, not-false}
 use lib.ListN.{length}
-use Rattle.model.specs.Check.{nextOf}
+use Rattle.model.specs.Check.{nextOf, kindOf, onward}
 use Rattle.model.specs.File.{wordsOf}
 use Rattle.model.proofs.Bytes.{words-length}
-use Rattle.checker.proofs.Turns.{Going, Turn, next-true, begins, ends, breaks, goes-on, stops, step-same}
+use Rattle.checker.specs.Steps.{progressOf}
+use Rattle.checker.proofs.Turns.{Going, Turn, next-true, begins, ends, breaks, goes-on, stops, refusal-same}
 use Rattle.checker.proofs.follow_bytes.Statement.{statement}
 use Rattle.checker.proofs.follow_bytes.Tie as tie
 
@@ -85,36 +86,36 @@ add-word-at-3 c = omega (arith, inside (c .before .before))
 word-at-requires-4 : tie.Need-word-at-requires-4 Inv-loop μ-loop
 word-at-requires-4 c κs = omega (arith, inside (c .before .before))
 
-step-requires : tie.Need-step-requires Inv-loop μ-loop
-step-requires c κs = omega (arith, inside (c .before .before .before))
+judge-requires : tie.Need-judge-requires Inv-loop μ-loop
+judge-requires c κs = omega (arith, inside (c .before .before .before))
 
-enum-known-after : tie.Need-enum-known-after Inv-loop μ-loop
-enum-known-after c = search needs
-
--- what a step makes of the next record
-turn : (c : tie.After-step Inv-loop μ-loop) → let w = c .before .before .before .before .before .before .before in
+-- the next record and its refusal
+turn : (c : tie.After-judge Inv-loop μ-loop) → let w = c .before .before .before .before .before .before .before in
     let a = w .before .before .before .before .before .args in
     let l = w .before .before .loop in
-    Turn (a .h) (wordsOf (a .bytes .now)) (l .g) (l .k) (w .wide .result) (c .step .result)
+    Turn (a .h) (wordsOf (a .bytes .now)) (l .g) (l .k) (w .wide .result) (c .judge .result)
 turn c =
     let w = c .before .before .before .before .before .before .before in
     let a = w .before .before .before .before .before .args in
     let l = w .before .before .loop in
     let range = inside (c .before .before .before .before) in
-    let read = step-same (a .h) (l .g) (c .before .before .before .word-at2 .ensures) (c .before .before .word-at3 .ensures) (c .before .word-at4 .ensures) in
-    record { here = l .inv .0; is = next w; up = range .0; low = omega (arith, words-length (a .bytes .now)); step-is = c .step .ensures ∙ read }
-
-loop-less : tie.Need-loop-less Inv-loop μ-loop
-loop-less c = omega (arith, inside (c .before .before .before .before .before .before .before))
-
-loop-again : tie.Need-loop-again Inv-loop μ-loop
-loop-again c = (goes-on _ _ _ _ _ _ (turn (c .before .before .before)) _ (c .before .after .given .1), inside (c .before .before .before .before .before .before .before) .1)
-
-enum-known-number : tie.Need-enum-known-number Inv-loop μ-loop
-enum-known-number c = search needs
+    let read = refusal-same (a .h) (l .g) (c .before .before .before .word-at2 .ensures) (c .before .before .word-at3 .ensures) (c .before .word-at4 .ensures) in
+    record { here = l .inv .0; is = next w; up = range .0; low = omega (arith, words-length (a .bytes .now)); refusal-is = c .judge .ensures ∙ read }
 
 returns-3 : tie.Need-returns-3 Inv-loop μ-loop
-returns-3 c = stops _ _ _ _ _ _ (turn (c .before .before .before)) _ (c .before .number .given .1)
+returns-3 c = stops _ _ _ _ _ _ (turn (c .before)) (c .if3 .taken)
+
+onward-requires : tie.Need-onward-requires Inv-loop μ-loop
+onward-requires c κs = omega (arith, inside (c .before .before .before .before .before))
+
+loop-less : tie.Need-loop-less Inv-loop μ-loop
+loop-less c = omega (arith, inside (c .before .before .before .before .before .before))
+
+loop-again : tie.Need-loop-again Inv-loop μ-loop
+loop-again c =
+    let kind = c .before .before .before .before .before .word-at2 .ensures in
+    let after = c .onward .ensures ∙ ap (λ k. onward (kindOf k) (progressOf (c .before .before .before .before .before .before .before .before .before .before .before .loop .g))) kind in
+    (goes-on _ _ _ _ _ _ (turn (c .before .before)) (c .before .if3 .left) (c .onward .result) after, inside (c .before .before .before .before .before .before) .1)
 
 pub follow-bytes-spec : {M : Type 1} → statement M
 follow-bytes-spec =
@@ -138,9 +139,8 @@ follow-bytes-spec =
     word-at-requires-3
     add-word-at-3
     word-at-requires-4
-    step-requires
-    enum-known-after
+    judge-requires
+    returns-3
+    onward-requires
     loop-less
-    loop-again
-    enum-known-number
-    returns-3)
+    loop-again)

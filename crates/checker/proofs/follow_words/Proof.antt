@@ -66,58 +66,55 @@ inside c = next-true _ _ _ (sym (c .before .may-follow .ensures) ∙ not-false _
 mul-at : tie.Need-mul-at Inv-loop μ-loop
 mul-at c = omega (arith, inside c)
 
-mul-step : tie.Need-mul-step Inv-loop μ-loop
-mul-step c = omega (arith, inside c)
+mul-kind : tie.Need-mul-kind Inv-loop μ-loop
+mul-kind c = omega (arith, inside c)
 
-shared-slice-read-step : tie.Need-shared-slice-read-step Inv-loop μ-loop
-shared-slice-read-step c = omega (arith, inside (c .before))
+shared-slice-read-kind : tie.Need-shared-slice-read-kind Inv-loop μ-loop
+shared-slice-read-kind c = omega (arith, inside (c .before))
 
-add-step : tie.Need-add-step Inv-loop μ-loop
-add-step c = omega (arith, inside (c .before))
+add-judge : tie.Need-add-judge Inv-loop μ-loop
+add-judge c = omega (arith, inside (c .before))
 
-mul-step-2 : tie.Need-mul-step-2 Inv-loop μ-loop
-mul-step-2 c = omega (arith, inside (c .before))
+mul-judge : tie.Need-mul-judge Inv-loop μ-loop
+mul-judge c = omega (arith, inside (c .before))
 
-shared-slice-read-step-2 : tie.Need-shared-slice-read-step-2 Inv-loop μ-loop
-shared-slice-read-step-2 c = omega (arith, inside (c .before .before))
+shared-slice-read-judge : tie.Need-shared-slice-read-judge Inv-loop μ-loop
+shared-slice-read-judge c = omega (arith, inside (c .before .before))
 
-add-step-2 : tie.Need-add-step-2 Inv-loop μ-loop
-add-step-2 c = omega (arith, inside (c .before .before))
+add-judge-2 : tie.Need-add-judge-2 Inv-loop μ-loop
+add-judge-2 c = omega (arith, inside (c .before .before))
 
-mul-step-3 : tie.Need-mul-step-3 Inv-loop μ-loop
-mul-step-3 c = omega (arith, inside (c .before .before))
+mul-judge-2 : tie.Need-mul-judge-2 Inv-loop μ-loop
+mul-judge-2 c = omega (arith, inside (c .before .before))
 
-shared-slice-read-step-3 : tie.Need-shared-slice-read-step-3 Inv-loop μ-loop
-shared-slice-read-step-3 c = omega (arith, inside (c .before .before .before))
+shared-slice-read-judge-2 : tie.Need-shared-slice-read-judge-2 Inv-loop μ-loop
+shared-slice-read-judge-2 c = omega (arith, inside (c .before .before .before))
 
-step-requires : tie.Need-step-requires Inv-loop μ-loop
-step-requires c κs = omega (arith, inside (c .before .before .before))
+judge-requires : tie.Need-judge-requires Inv-loop μ-loop
+judge-requires c κs = omega (arith, inside (c .before .before .before))
 
-enum-known-after : tie.Need-enum-known-after Inv-loop μ-loop
-enum-known-after c = search needs
-
--- what a step makes of the next record
-turn : (c : tie.After-step Inv-loop μ-loop) → let w = c .before .before .before .before .before .before .before in
+-- the next record and its refusal
+turn : (c : tie.After-judge Inv-loop μ-loop) → let w = c .before .before .before .before .before .before .before in
     let a = w .before .before .before .before .before .args in
     let l = w .before .before .loop in
-    Turn (a .h) (a .words .now) (l .g) (l .k) (w .wide .result) (c .step .result)
+    Turn (a .h) (a .words .now) (l .g) (l .k) (w .wide .result) (c .judge .result)
 turn c =
     let w = c .before .before .before .before .before .before .before in
     let l = w .before .before .loop in
     let range = inside (c .before .before .before .before) in
-    record { here = l .inv; is = w .wide .ensures; up = range .0; low = range .1; step-is = c .step .ensures }
-
-loop-less : tie.Need-loop-less Inv-loop μ-loop
-loop-less c = omega (arith, inside (c .before .before .before .before .before .before .before))
-
-loop-again : tie.Need-loop-again Inv-loop μ-loop
-loop-again c = goes-on _ _ _ _ _ _ (turn (c .before .before .before)) _ (c .before .after .given .1)
-
-enum-known-number : tie.Need-enum-known-number Inv-loop μ-loop
-enum-known-number c = search needs
+    record { here = l .inv; is = w .wide .ensures; up = range .0; low = range .1; refusal-is = c .judge .ensures }
 
 returns-3 : tie.Need-returns-3 Inv-loop μ-loop
-returns-3 c = stops _ _ _ _ _ _ (turn (c .before .before .before)) _ (c .before .number .given .1)
+returns-3 c = stops _ _ _ _ _ _ (turn (c .before)) (c .if3 .taken)
+
+onward-requires : tie.Need-onward-requires Inv-loop μ-loop
+onward-requires c κs = omega (arith, inside (c .before .before .before .before .before))
+
+loop-less : tie.Need-loop-less Inv-loop μ-loop
+loop-less c = omega (arith, inside (c .before .before .before .before .before .before))
+
+loop-again : tie.Need-loop-again Inv-loop μ-loop
+loop-again c = goes-on _ _ _ _ _ _ (turn (c .before .before)) (c .before .if3 .left) (c .onward .result) (c .onward .ensures)
 
 pub follow-words-spec : {M : Type 1} → statement M
 follow-words-spec =
@@ -137,17 +134,16 @@ follow-words-spec =
     may-follow-requires
     returns-2
     mul-at
-    mul-step
-    shared-slice-read-step
-    add-step
-    mul-step-2
-    shared-slice-read-step-2
-    add-step-2
-    mul-step-3
-    shared-slice-read-step-3
-    step-requires
-    enum-known-after
+    mul-kind
+    shared-slice-read-kind
+    add-judge
+    mul-judge
+    shared-slice-read-judge
+    add-judge-2
+    mul-judge-2
+    shared-slice-read-judge-2
+    judge-requires
+    returns-3
+    onward-requires
     loop-less
-    loop-again
-    enum-known-number
-    returns-3)
+    loop-again)

@@ -1,0 +1,93 @@
+-- `compiler::compile` answers and leaves what the model says: each refusal by the first check that fails.
+use Prim.Native.Nat.{_*_, _≤_}
+use native.Mathlib.Omega.{arith}
+use native.Mathlib.Nat.{mul-le-mul}
+use mathlib.Core.Path.{_≡_, sym, ap, _∙_}
+use mathlib.Core.Bool.{true}
+use denote.Ref.{now}
+use lib.ListN.{length}
+use borrow.Author.Needs.{needs}
+use borrow.Author.Tests.{not-true, not-false}
+use Rattle.model.specs.Label.{isOrder}
+use Rattle.model.proofs.Plans.{within-range}
+use Rattle.model.proofs.Compiles.{ends-order, ends-room, ends-labels}
+use Rattle.compiler.specs.Judge.{labelsOf}
+use Rattle.compiler.proofs.compile.Statement.{statement}
+use Rattle.compiler.proofs.compile.Tie as tie
+
+ordered : (k : tie.Else1) → isOrder (k .before .before .before .before .before .args .n) ≡ true
+ordered k = sym (k .before .within .ensures) ∙ not-false _ (k .if1 .left)
+
+square-fits : (k : tie.Else1) → let n = k .before .before .before .before .before .args .n in n * n ≤ 360000
+square-fits k = let n = within-range _ 600 (ordered k) .1 in mul-le-mul {n₂ = 600} {m₂ = 600} n n
+
+roomy : (k : tie.Else2) → let a = k .before .before .before .before .before .before .before .args in a .n * a .n ≤ length (now (a .work))
+roomy k = omega arith
+
+within-requires : tie.Need-within-requires
+within-requires c κs = search needs
+
+returns : tie.Need-returns
+returns c = let e = ends-order _ _ _ _ (sym (c .before .within .ensures) ∙ not-true _ (c .if1 .taken)) in (e .answer-is, (e .work-is, e .words-is))
+
+mul-square : tie.Need-mul-square
+mul-square c = omega (arith, square-fits c)
+
+wide-requires : tie.Need-wide-requires
+wide-requires c κs = search needs
+
+cast-t12 : tie.Need-cast-t12
+cast-t12 c = search needs
+
+returns-2 : tie.Need-returns-2
+returns-2 c =
+    let a = c .before .before .before .before .before .before .before .args in
+    let e = ends-room (a .n) (now (a .plan)) (now (a .work)) (now (a .words)) (ordered (c .before .before)) (omega arith) in
+    (e .answer-is, (e .work-is, e .words-is))
+
+judge-requires : tie.Need-judge-requires
+judge-requires c κs = within-range _ 600 (ordered (c .before .before)) .1
+
+enum-known-number : tie.Need-enum-known-number
+enum-known-number c = search needs
+
+enum-told : tie.Need-enum-told
+enum-told c = search needs
+
+compile-good-requires : tie.Need-compile-good-requires
+compile-good-requires c κs =
+    (ordered (c .before .before .before .before .before .before .before), (sym (c .before .before .before .before .judge .ensures) ∙ ap labelsOf (c .before .before .enum-told .given .1), roomy (c .before .before .before .before .before)))
+
+returns-3 : tie.Need-returns-3
+returns-3 c =
+    let judged = sym (c .before .before .before .judge .ensures) ∙ ap labelsOf (c .before .number .given .1) in
+    let e = ends-labels _ _ _ _ _ _ (ordered (c .before .before .before .before .before .before)) (roomy (c .before .before .before .before)) judged in
+    (e .answer-is, (e .work-is, e .words-is))
+
+same-length : tie.Need-same-length
+same-length c = search needs
+
+same-length-2 : tie.Need-same-length-2
+same-length-2 c = search needs
+
+returns-4 : tie.Need-returns-4
+returns-4 c = search needs
+
+pub compile-spec : {M : Type 1} → statement M
+compile-spec =
+    tie.close
+    (tie.spec
+    within-requires
+    returns
+    mul-square
+    wide-requires
+    cast-t12
+    returns-2
+    judge-requires
+    enum-known-number
+    enum-told
+    compile-good-requires
+    returns-3
+    same-length
+    same-length-2
+    returns-4)

@@ -1,0 +1,13 @@
+-- Batch m's column from the diagonal down or, across, its row right of the diagonal. Definitions only.
+use Prim.Native.Nat.{ℕ, suc}
+use mathlib.Core.Bool.{Bool, cond}
+
+-- the row and the column of a line's t-th place, and the first t
+abbrev pub rowOf : Bool → ℕ → ℕ → ℕ
+rowOf across m t = cond across m t
+
+abbrev pub columnOf : Bool → ℕ → ℕ → ℕ
+columnOf across m t = cond across t m
+
+abbrev pub firstOf : Bool → ℕ → ℕ
+firstOf across m = cond across (suc m) m
