@@ -1,4 +1,4 @@
-//! Random numbers, plans and values, the same in every run.
+//! Random numbers, the same in every run.
 
 /// SplitMix64.
 pub struct Random(pub u64);

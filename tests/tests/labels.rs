@@ -1,6 +1,7 @@
 //! `crout_label` and `crout_place` against (2.8) and against the dense order of the places.
 
-use crout_tests::{label, place, reading};
+use crout_tests::calls::labels::{label, place};
+use crout_tests::reading;
 
 /// All places of an order: the label by (2.8), by its index in dense order, and back.
 fn compare_order(n: u32) {

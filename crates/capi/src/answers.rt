@@ -1,40 +1,84 @@
 // Answers as numbers: a refusal and its detail as one, and three further numbers in a lent array.
 use codec::Filing;
+use compiler::Compilation;
+use runner::Outcome;
 ghost use mathlib.Core.Path.{_≡_};
-ghost use mathlib.Core.List.{[], _∷_};
-ghost use Prim.Native.Nat.{_≤_, _<_, _^_};
-ghost use Rattle.model.specs.Boundary.{refusalNumber, filedNumber, filedNumbers};
-ghost use Rattle.model.proofs.Small.{SmallFiled};
+ghost use Prim.Native.Nat.{_<_, _^_};
+ghost use Rattle.model.specs.Boundary.{refusalNumber, compiledNumber, compiledNumbers, filedNumber, filedNumbers, replyNumber, replyNumbers};
+ghost use Rattle.compiler.specs.Compilation.{compiledOf};
 ghost use Rattle.codec.specs.Filing.{filedOf};
+ghost use Rattle.runner.specs.Outcome.{replyOf};
 
 // The refusal's number times 2^32 plus its detail.
 pub fn refusal(number: u32, detail: u64) -> u64
-    requires { ⌜ (number ≤ 20) × (detail ≤ 2 ^ 63) ⌝ }
+    requires { ⌜ refusalNumber number detail < 2 ^ 64 ⌝ }
     ensures { λ r. ⌜ r ≡ refusalNumber number detail ⌝ }
 {
     number as u64 * 4294967296 + detail
 }
 
-fn put(out: &mut [u64; 3], first: u64, second: u64, third: u64)
-    ensures { λ _. ⌜ now (out .exit) ≡ first ∷ second ∷ third ∷ [] ⌝ }
+// The compiler's answer: slots, products, records.
+pub fn compile_answer(answer: Compilation, out: &mut [u64; 3]) -> u64
+    requires { ⌜ compiledNumber (compiledOf answer) < 2 ^ 64 ⌝ }
+    ensures { λ r. ⌜ (r ≡ compiledNumber (compiledOf answer)) × (now (out .exit) ≡ compiledNumbers (compiledOf answer)) ⌝ }
 {
-    out[0] = first;
-    out[1] = second;
-    out[2] = third;
+    match answer {
+        Compilation::Written {
+            slots,
+            products,
+            records,
+        } => {
+            *out = [slots as u64, products as u64, records as u64];
+            0
+        }
+        Compilation::Refused { number, detail } => {
+            *out = [0, 0, 0];
+            refusal(number, detail)
+        }
+    }
 }
 
 // A file call's answer: the entries written.
 pub fn file_answer(answer: Filing, out: &mut [u64; 3]) -> u64
-    requires { ⌜ SmallFiled (2 ^ 63) (filedOf answer) ⌝ }
+    requires { ⌜ filedNumber (filedOf answer) < 2 ^ 64 ⌝ }
     ensures { λ r. ⌜ (r ≡ filedNumber (filedOf answer)) × (now (out .exit) ≡ filedNumbers (filedOf answer)) ⌝ }
 {
     match answer {
         Filing::Done(entries) => {
-            put(out, entries, 0, 0);
+            *out = [entries, 0, 0];
             0
         }
         Filing::Refused { number, detail } => {
-            put(out, 0, 0, 0);
+            *out = [0, 0, 0];
+            refusal(number, detail)
+        }
+    }
+}
+
+// A run's answer: products and quotients; after 16 and 17 the table and the target's number, the record being the detail.
+pub fn run_answer(answer: Outcome, out: &mut [u64; 3]) -> u64
+    requires { ⌜ replyNumber (replyOf answer) < 2 ^ 64 ⌝ }
+    ensures { λ r. ⌜ (r ≡ replyNumber (replyOf answer)) × (now (out .exit) ≡ replyNumbers (replyOf answer)) ⌝ }
+{
+    match answer {
+        Outcome::Solved {
+            products,
+            quotients,
+        } => {
+            *out = [products as u64, quotients as u64, 0];
+            0
+        }
+        Outcome::Stopped {
+            number,
+            record,
+            table,
+            target,
+        } => {
+            *out = [table as u64, target as u64, 0];
+            refusal(number, record as u64)
+        }
+        Outcome::Refused { number, detail } => {
+            *out = [0, 0, 0];
             refusal(number, detail)
         }
     }

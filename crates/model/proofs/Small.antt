@@ -18,12 +18,15 @@ use Rattle.model.specs.Formula.{C, Y, X, entry, less}
 use Rattle.model.specs.Run.{State, Outcome, stopped, refusedBy, fresh, Stepped, going, stop, closing, subtracted, dividedBy, settledStep, step, follow, notFinite, ran, Reply, solves, stops, refuses, reply}
 use Rattle.model.specs.Compile as Compile
 use Rattle.model.specs.Compile.{Compiled, written, Labels, good, bad, judged, compiles}
+use Rattle.model.specs.Program.{compiled}
+use Rattle.model.specs.Solve.{replied}
 use Rattle.model.specs.File as File
 use Rattle.model.specs.File.{Filed, filed, writes, reads, wordsOf, checkFile}
 use Rattle.model.proofs.Bytes.{words-length}
 use Rattle.model.proofs.Plans.{within-range, missing-free}
-use Rattle.model.proofs.Compiles.{compilesBy, compiles-is}
+use Rattle.model.proofs.Compiles.{compilesBy, compiles-is, compiles-success}
 use Rattle.model.proofs.Runs.{gated-each, lengthsRight, ranBy, ran-is}
+use Rattle.model.proofs.Counts.{words-counted}
 use Rattle.model.proofs.Bounds.{records-at-most}
 
 -- a refusal's number is at most 20 and its detail at most b
@@ -267,3 +270,22 @@ ran-small W A B c y x = rw (ran-is W A B c y x) (go (check W) (check-small W))
         (lengthsRight (word W 0) (word W 1) (word W 2) (length A) (length B) c y x) (notFinite 1 A) (notFinite 1 B) (follow A B (fresh (word W 0)) (chain W .links)) (omega arith)
         (omega (arith, not-finite-small 1 A)) (omega (arith, not-finite-small 1 B))
         (wider (reply (follow A B (fresh (word W 0)) (chain W .links))) (follow-small (length W / 4) A B (fresh (word W 0)) (chain W .links) up))
+
+-- ---- compiling and running
+
+pub replied-small : (N : ℕ) (L : Plan) (A B : List Float) (work words c y x : ℕ) → SmallReply (400000001 + length L + length A + length B) (replied N L A B work words c y x)
+unfolding replied
+replied-small N L A B work words c y x = go (compiles N L work words) refl (compiles-small N L work words)
+  where
+    wider : (r : Reply) (k : ℕ) → k ≤ 400000000 → SmallReply (1 + k + length A + length B) r → SmallReply (400000001 + length L + length A + length B) r
+    wider (solves p q) k h s = tt
+    wider (stops r i t n) k h s = omega arith
+    wider (refuses r d) k h s = omega arith
+
+    go : (v : Compiled) → compiles N L work words ≡ v → SmallCompiled (100000000 + length L) v
+        → SmallReply (400000001 + length L + length A + length B) (elim v as (λ v. Reply) [ Compile.refusal r d ↦ refuses r d | written s p r ↦ reply (ran (compiled N L) A B c y x) ])
+    go (Compile.refusal r d) e small = omega arith
+    go (written s p r) e small =
+        let k = compiles-success N L work words s p r e in
+        let few : length (compiled N L) ≤ 400000000 = omega (arith, words-counted N L (k .pivots), records-at-most N L (within-range N 600 (k .order) .1)) in
+        wider (reply (ran (compiled N L) A B c y x)) (length (compiled N L)) few (ran-small (compiled N L) A B c y x)

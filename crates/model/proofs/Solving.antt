@@ -1,20 +1,23 @@
 -- Compiling and running is solving: what `solve` does, by dense Crout alone.
-use Prim.Native.Nat.{ℕ}
+use Prim.Native.Nat.{ℕ, _*_, _≤_}
 use mathlib.Core.Path.{_≡_, refl, sym, ap, _∙_}
 use mathlib.Core.Bool.{true}
-use mathlib.Core.List.{List}
-use lib.ListN.{length}
+use mathlib.Core.List.{List, _++_}
+use native.Mathlib.Omega.{arith}
+use lib.ListN.{length, take, drop, length-append}
+use lib.Seq.{take-at}
 use lib.Ieee.{Float}
 use Rattle.model.specs.Fill.{Plan, slots}
 use Rattle.model.specs.Formula.{Table, C, Y, X}
 use Rattle.model.specs.Crout.{dense}
-use Rattle.model.specs.Compile.{Compiled, written, refusal, compiles}
+use Rattle.model.specs.Compile.{Compiled, written, refusal, compiles, wordsAfter}
 use Rattle.model.specs.Program.{compiled}
-use Rattle.model.specs.Run.{Outcome, solution, stopped, refusedBy, notFinite, ran, leaves}
+use Rattle.model.specs.Run.{Outcome, solution, stopped, refusedBy, notFinite, ran, Reply, refuses, reply, leaves}
 use Rattle.model.specs.Agreement.{Values, Accepted, Seen, early, seen, compressed}
-use Rattle.model.specs.Solve.{solving, leftIn}
+use Rattle.model.specs.Solve.{solving, told, tellsOf, replied, leftIn}
 use Rattle.model.proofs.Compiles.{compiles-success}
 use Rattle.model.proofs.Runs.{gated, gated-same, gated-map, lengthsRight, right-lengths, ran-fine}
+use Rattle.model.proofs.Counts.{words-counted}
 use Rattle.model.proofs.Checked.{program-fine}
 use Rattle.model.proofs.Agreement.{runs, agreement}
 
@@ -26,6 +29,13 @@ leaves-left (solution ts p q) Y vs = refl
 leaves-left (solution ts p q) X vs = refl
 leaves-left (stopped r k u n) t vs = refl
 leaves-left (refusedBy r d) t vs = refl
+
+-- and tells what that says
+tells-told : (o : Outcome) → tellsOf (reply o) ≡ told (seen o)
+unfolding reply told seen
+tells-told (solution ts p q) = refl
+tells-told (stopped r k u n) = refl
+tells-told (refusedBy r d) = refl
 
 module _ (N : ℕ) (L : Plan) (A B : List Float) (work words c y x : ℕ) where
   -- solving by the compiler's answer, and then by 14 and 15
@@ -61,3 +71,47 @@ module _ (N : ℕ) (L : Plan) (A B : List Float) (work words c y x : ℕ) where
       ∙ gated-map seen (refusedBy 14 0) (refusedBy 15) right (notFinite 1 A) (notFinite 1 B) _
       ∙ gated-same (early 14 0) (early 15) right (notFinite 1 A) (notFinite 1 B) _ _ (λ l fa fb. sym (ap seen (runs (accepts l fa fb))) ∙ agreement (accepts l fa fb))
       ∙ sym (solving-is ∙ ap solvingBy e)
+
+-- ---- what `solve` answers and leaves
+
+-- the answer with what then stands in the lent tables, which held c, y and x
+pub record Solves (N : ℕ) (L : Plan) (A B : List Float) (work words : ℕ) (c y x : List Float) (answer : Reply) (c′ y′ x′ : List Float) : Type 0 where
+  pub tells : tellsOf answer ≡ told (solving N L A B work words (length c) (length y) (length x))
+  pub replies : answer ≡ replied N L A B work words (length c) (length y) (length x)
+  pub c-is : c′ ≡ leftIn (solving N L A B work words (length c) (length y) (length x)) C c
+  pub y-is : y′ ≡ leftIn (solving N L A B work words (length c) (length y) (length x)) Y y
+  pub x-is : x′ ≡ leftIn (solving N L A B work words (length c) (length y) (length x)) X x
+
+module _ (N : ℕ) (L : Plan) (A B : List Float) (work words : ℕ) (c y x : List Float) where
+  -- after the compiler's refusal
+  pub refused-solves : (r d : ℕ) → compiles N L work words ≡ refusal r d → Solves N L A B work words c y x (refuses r d) c y x
+  unfolding told leftIn replied
+  refused-solves r d e =
+      let ends = solving-refused N L A B work words (length c) (length y) (length x) r d e in
+      record { tells = ap told (sym ends); replies = rw (replied, e); c-is = ap (λ s. leftIn s C c) (sym ends); y-is = ap (λ s. leftIn s Y y) (sym ends); x-is = ap (λ s. leftIn s X x) (sym ends) }
+
+  -- after the run of the compiled program
+  pub ran-solves : (s p r : ℕ) → compiles N L work words ≡ written s p r → Values A → Values B → let o = ran (compiled N L) A B (length c) (length y) (length x) in
+      Solves N L A B work words c y x (reply o) (leaves o C c) (leaves o Y y) (leaves o X x)
+  unfolding replied
+  ran-solves s p r e a b =
+      let ends = solving-runs N L A B work words (length c) (length y) (length x) s p r e a b in
+      let left : (t : Table) (vs : List Float) → leaves (ran (compiled N L) A B (length c) (length y) (length x)) t vs ≡ leftIn (solving N L A B work words (length c) (length y) (length x)) t vs =
+      λ t vs. leaves-left _ t vs ∙ ap (λ s. leftIn s t vs) ends in
+      record { tells = tells-told _ ∙ ap told ends; replies = rw (replied, e); c-is = left C c; y-is = left Y y; x-is = left X x }
+
+-- ---- the words that the compiler's success leaves start with the program
+
+module _ (N : ℕ) (L : Plan) (work : ℕ) (words : List ℕ) (s p r : ℕ) (e : compiles N L work (length words) ≡ written s p r) where
+  words-left : wordsAfter N L work words ≡ compiled N L ++ drop (4 * r) words
+  unfolding wordsAfter
+  words-left = rw (wordsAfter, e)
+
+  program-length : length (compiled N L) ≡ 4 * r
+  program-length = let k = compiles-success N L work (length words) s p r e in words-counted N L (k .pivots) ∙ ap (λ n. 4 * n) (sym (k .records-are))
+
+  pub program-fits : 4 * r ≤ length (wordsAfter N L work words)
+  program-fits = rw (words-left, length-append) (omega (arith, program-length))
+
+  pub program-taken : take (4 * r) (wordsAfter N L work words) ≡ compiled N L
+  program-taken = rw words-left (take-at (compiled N L) (drop (4 * r) words) (4 * r) program-length)

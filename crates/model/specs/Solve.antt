@@ -9,8 +9,9 @@ use Rattle.model.specs.Arith.{plusZero}
 use Rattle.model.specs.Fill.{Plan, slots}
 use Rattle.model.specs.Formula.{Table, C, Y, X, numberOf}
 use Rattle.model.specs.Crout.{dense}
+use Rattle.model.specs.Program.{compiled}
 use Rattle.model.specs.Compile.{compiles, written, refusal}
-use Rattle.model.specs.Run.{notFinite}
+use Rattle.model.specs.Run.{notFinite, ran, Reply, solves, stops, refuses, reply}
 use Rattle.model.specs.Agreement.{Seen, whole, ended, early, compressed}
 
 -- How solving ends, with slices of work numbers, words, C, Y and X of these lengths: the compiler's checks, the lengths (14), the values (15),
@@ -28,7 +29,7 @@ solving N L A B work words c y x =
       ]
     ]
 
--- what the caller is told of it
+-- what the caller is told of it, the record of a refusal left out, which dense Crout has no counterpart of
 pub data Told : Type 0 where
   -- the products and the quotients
   solved : ℕ → ℕ → Told
@@ -41,6 +42,19 @@ unfoldable pub told : Seen → Told
 told (whole t products quotients) = solved products quotients
 told (ended r t k) = stopped r (numberOf t) k
 told (early r d) = refused r d
+
+-- a reply without its record
+abbrev pub tellsOf : Reply → Told
+tellsOf (solves products quotients) = solved products quotients
+tellsOf (stops r index t k) = stopped r t k
+tellsOf (refuses r d) = refused r d
+
+-- the reply with its record: the compiler's refusal, or the reply of the compiled program's run
+unfoldable pub replied : ℕ → Plan → List Float → List Float → ℕ → ℕ → ℕ → ℕ → ℕ → Reply
+replied N L A B work words c y x = elim (compiles N L work words) [
+  | refusal r d ↦ refuses r d
+  | written s p r ↦ reply (ran (compiled N L) A B c y x)
+]
 
 -- what it leaves in the lent table t, which held vs
 unfoldable pub leftIn : Seen → Table → List Float → List Float

@@ -66,11 +66,16 @@ impl Progress {
 }
 
 pub fn check(words: &[u32]) -> Verdict {
-    let records = words.len() / 4;
-    if words.is_empty() || words.len() % 4 != 0 || records > 100_000_000 {
+    check_with(words.len(), |k| words[k])
+}
+
+/// The check of a row of words of which only the length and single words are asked for.
+pub fn check_with(len: usize, word: impl Fn(usize) -> u32) -> Verdict {
+    let records = len / 4;
+    if len == 0 || len % 4 != 0 || records > 100_000_000 {
         return Err((7, 0));
     }
-    let head = Head { n: words[0], plan: words[1], slots: words[2] };
+    let head = Head { n: word(0), plan: word(1), slots: word(2) };
     let square = u64::from(head.n) * u64::from(head.n);
     if !(1..=600).contains(&head.n) || u64::from(head.plan) > square || head.slots < head.n || u64::from(head.slots) > square {
         return Err((8, 0));
@@ -78,7 +83,7 @@ pub fn check(words: &[u32]) -> Verdict {
     let mut progress = Progress::default();
     let mut at = 0;
     loop {
-        let next = words[4 * at + 3] as usize;
+        let next = word(4 * at + 3) as usize;
         if next == 0 {
             break;
         }
@@ -86,7 +91,7 @@ pub fn check(words: &[u32]) -> Verdict {
             return Err((9, at as u64));
         }
         at = next;
-        let record = [words[4 * at], words[4 * at + 1], words[4 * at + 2]];
+        let record = [word(4 * at), word(4 * at + 1), word(4 * at + 2)];
         progress.step(&head, record).map_err(|number| (number, at as u64))?;
     }
     let complete = progress.open == 0 && progress.c == head.slots && progress.y == head.n && progress.x == head.n;

@@ -1,8 +1,8 @@
 //! The program file: 18, 19 and the writer's 7.
 
-use super::{check::check, Verdict};
+use super::{Refusal, Verdict, check::check_with};
 
-pub fn write(words: &[u32], bytes: &mut [u8]) -> Result<u64, (u32, u64)> {
+pub fn write(words: &[u32], bytes: &mut [u8]) -> Result<u64, Refusal> {
     if words.len() > 400_000_000 {
         return Err((7, 0));
     }
@@ -15,11 +15,13 @@ pub fn write(words: &[u32], bytes: &mut [u8]) -> Result<u64, (u32, u64)> {
     Ok(4 * words.len() as u64)
 }
 
-pub fn words_of(bytes: &[u8]) -> Vec<u32> {
-    bytes.chunks_exact(4).map(|four| u32::from_le_bytes(four.try_into().expect("four bytes"))).collect()
+/// The word at an index of a file.
+fn word(bytes: &[u8], index: usize) -> u32 {
+    let four = &bytes[4 * index..4 * index + 4];
+    u32::from_le_bytes(four.try_into().expect("four bytes"))
 }
 
-pub fn read(bytes: &[u8], words: &mut [u32]) -> Result<u64, (u32, u64)> {
+pub fn read(bytes: &[u8], words: &mut [u32]) -> Result<u64, Refusal> {
     if bytes.len() % 4 != 0 {
         return Err((18, 0));
     }
@@ -27,7 +29,9 @@ pub fn read(bytes: &[u8], words: &mut [u32]) -> Result<u64, (u32, u64)> {
     if words.len() < needed {
         return Err((19, needed as u64));
     }
-    words[..needed].copy_from_slice(&words_of(bytes));
+    for (index, entry) in words[..needed].iter_mut().enumerate() {
+        *entry = word(bytes, index);
+    }
     Ok(needed as u64)
 }
 
@@ -35,5 +39,5 @@ pub fn check_file(bytes: &[u8]) -> Verdict {
     if bytes.len() % 4 != 0 {
         return Err((18, 0));
     }
-    check(&words_of(bytes))
+    check_with(bytes.len() / 4, |index| word(bytes, index))
 }

@@ -3,9 +3,7 @@
 /// Every place of a table of order n in dense order: for m = 1..n column m from the diagonal down, then row m right of it.
 /// The place at index K - 1 has label K.
 pub fn places(n: u32) -> Vec<(u32, u32)> {
-    (1..=n)
-        .flat_map(|m| (m..=n).map(move |i| (i, m)).chain((m + 1..=n).map(move |j| (m, j))))
-        .collect()
+    (1..=n).flat_map(|m| (m..=n).map(move |i| (i, m)).chain((m + 1..=n).map(move |j| (m, j)))).collect()
 }
 
 /// The label of a place by (2.8), in wide integers and with nothing left out of range.

@@ -7,5 +7,8 @@ pub mod labels;
 pub mod plan;
 pub mod run;
 
-/// What a call answers: nothing wrong, or a refusal's number and its detail.
-pub type Verdict = Result<(), (u32, u64)>;
+/// A refusal's number and its detail.
+pub type Refusal = (u32, u64);
+
+/// What a check answers: nothing wrong, or a refusal.
+pub type Verdict = Result<(), Refusal>;

@@ -1,7 +1,7 @@
 //! "Fill and slots", "Records" and checks 1 to 6. Fill is found by elimination, column by column to the right, where the
 //! proved code searches back from each place.
 
-use super::labels;
+use super::{Refusal, Verdict, labels};
 
 /// The places held, in a square of n + 1 by n + 1 of which row and column 0 are unused.
 pub struct Held {
@@ -82,7 +82,7 @@ pub struct Written {
 }
 
 /// The first bad label: its refusal and its position.
-fn judged(n: u32, plan: &[u32]) -> Result<(), (u32, u64)> {
+fn judged(n: u32, plan: &[u32]) -> Verdict {
     let mut before = 0;
     for (position, &label) in (1..).zip(plan) {
         if label < 1 || label > n * n {
@@ -97,7 +97,7 @@ fn judged(n: u32, plan: &[u32]) -> Result<(), (u32, u64)> {
 }
 
 /// The compiler's answer, and what it leaves in the lent slices.
-pub fn compile(n: u32, plan: &[u32], work: &mut [u32], words: &mut [u32]) -> Result<Written, (u32, u64)> {
+pub fn compile(n: u32, plan: &[u32], work: &mut [u32], words: &mut [u32]) -> Result<Written, Refusal> {
     if !(1..=600).contains(&n) {
         return Err((1, 0));
     }

@@ -5,10 +5,21 @@ use super::dense::{difference, product, quotient, read};
 
 #[derive(Clone, Copy, Debug, PartialEq, Eq)]
 pub enum Outcome {
-    Solved { products: u64, quotients: u64 },
+    Solved {
+        products: u64,
+        quotients: u64,
+    },
     /// 16 or 17, the record, and the table (1 for C, 2 for Y, 3 for X) and number of the target.
-    Stopped { number: u32, record: u64, table: u64, target: u64 },
-    Refused { number: u32, detail: u64 },
+    Stopped {
+        number: u32,
+        record: u64,
+        table: u64,
+        target: u64,
+    },
+    Refused {
+        number: u32,
+        detail: u64,
+    },
 }
 
 fn not_finite(values: &[f64]) -> Option<u64> {

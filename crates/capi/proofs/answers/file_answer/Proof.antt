@@ -1,36 +1,28 @@
+-- `capi::answers::file_answer` gives a file call's number and leaves its numbers in the lent array.
+use Prim.Native.Nat.{_<_, _^_}
+use mathlib.Core.Path.{refl, sym, ap, subst}
 use borrow.Author.Needs.{needs}
+use Rattle.model.specs.Boundary.{filedNumber, filedNumbers}
+use Rattle.codec.specs.Filing.{filedOf}
+use Rattle.capi.proofs.Numbers.{carried}
 use Rattle.capi.proofs.answers.file_answer.Statement.{statement}
 use Rattle.capi.proofs.answers.file_answer.Tie as tie
 
 enum-known-answer : tie.Need-enum-known-answer
 enum-known-answer c = search needs
 
-put-requires : tie.Need-put-requires
-put-requires c κs = search needs
-
 enum-known-answer-2 : tie.Need-enum-known-answer-2
 enum-known-answer-2 c = search needs
 
-put-requires-2 : tie.Need-put-requires-2
-put-requires-2 c κs = search needs
-
 refusal-requires : tie.Need-refusal-requires
-refusal-requires c κs = ?
+refusal-requires c κs = subst (λ v. filedNumber v < 2 ^ 64) (ap filedOf (c .before .before .answer2 .given .1)) (c .before .before .before .before .pre)
 
 returns : tie.Need-returns
-returns c = search needs
+returns c = carried filedNumber filedNumbers (sym (ap filedOf (c .before .before .answer .given .1))) (refl, refl)
 
 returns-2 : tie.Need-returns-2
-returns-2 c = ?
+returns-2 c = carried filedNumber filedNumbers (sym (ap filedOf (c .before .before .before .answer2 .given .1))) (c .refusal .ensures, refl)
 
 pub file-answer-spec : {M : Type 1} → statement M
 file-answer-spec =
-    tie.close
-    (tie.spec
-    enum-known-answer
-    put-requires
-    enum-known-answer-2
-    put-requires-2
-    refusal-requires
-    returns
-    returns-2)
+    tie.close (tie.spec enum-known-answer enum-known-answer-2 refusal-requires returns returns-2)

@@ -1,0 +1,253 @@
+//! A plan to a program: fill by search, slots, counts, then the records.
+
+use super::Refusal;
+
+/// Slots, products, records.
+pub type Written = [u64; 3];
+
+pub fn compile(n: u32, plan: &[u32], work: &mut [u32], words: &mut [u32]) -> Result<Written, Refusal> {
+    if !(1..=600).contains(&n) {
+        return Err((1, 0));
+    }
+    let square = (n * n) as usize;
+    if work.len() < square {
+        return Err((2, square as u64));
+    }
+    judge(n, plan)?;
+    let work = &mut work[..square];
+    let table = Table::fill(n as usize, plan, work).map_err(|m| {
+        work.fill(0);
+        (5, m as u64)
+    })?;
+    if words.len() / 4 < table.records() {
+        return Err((6, table.records() as u64));
+    }
+    table.write(plan, work, &mut words[..4 * table.records()]);
+    Ok([table.slots as u64, table.products() as u64, table.records() as u64])
+}
+
+/// 3 and 4: the first bad label.
+fn judge(n: u32, plan: &[u32]) -> Result<(), Refusal> {
+    let mut before = 0;
+    for (position, &label) in (1..).zip(plan) {
+        if label < 1 || label > n * n {
+            return Err((3, position));
+        }
+        if label <= before {
+            return Err((4, position));
+        }
+        before = label;
+    }
+    Ok(())
+}
+
+/// What is known of the held places beside their slots, which stand in the work slice by label. Rows and columns count from 1.
+struct Table {
+    n: usize,
+    slots: usize,
+    /// The first held column of each row, and the first held row of each column; above n while there is none.
+    first_column: Vec<usize>,
+    first_row: Vec<usize>,
+    /// The held places below each pivot, and those to the right of it.
+    below: Vec<usize>,
+    right: Vec<usize>,
+}
+
+/// The indices in the work slice of (i, h) and (h, j) for h rising, by additions; h is below both i and j.
+struct Walk {
+    h: usize,
+    lower: usize,
+    upper: usize,
+    step: usize,
+}
+
+impl Walk {
+    fn new(n: usize, i: usize, j: usize, h: usize) -> Self {
+        Self { h, lower: (h - 1) * (2 * n - h) + i - 1, upper: h * (2 * n - h) - n + j - 1, step: 2 * (n - h) }
+    }
+
+    fn advance(&mut self) {
+        self.h += 1;
+        self.lower += self.step;
+        self.upper += self.step - 1;
+        self.step -= 2;
+    }
+}
+
+impl Table {
+    /// The slots of all places by rising label, or the first missing pivot.
+    fn fill(n: usize, plan: &[u32], work: &mut [u32]) -> Result<Self, usize> {
+        let mut table = Self {
+            n,
+            slots: 0,
+            first_column: vec![n + 1; n + 1],
+            first_row: vec![n + 1; n + 1],
+            below: vec![0; n + 1],
+            right: vec![0; n + 1],
+        };
+        let (mut position, mut label) = (0, 0);
+        for m in 1..=n {
+            let pivot = label;
+            for i in m..=n {
+                let planned = plan.get(position) == Some(&(label as u32 + 1));
+                position += usize::from(planned);
+                work[label] = table.slot(i, m, planned, work);
+                label += 1;
+            }
+            if work[pivot] == 0 {
+                return Err(m);
+            }
+            for j in m + 1..=n {
+                let planned = plan.get(position) == Some(&(label as u32 + 1));
+                position += usize::from(planned);
+                work[label] = table.slot(m, j, planned, work);
+                label += 1;
+            }
+        }
+        Ok(table)
+    }
+
+    /// The slot of a place, or 0.
+    #[inline(always)]
+    fn slot(&mut self, i: usize, j: usize, planned: bool, work: &[u32]) -> u32 {
+        if planned || self.filled(i, j, work) { self.hold(i, j) } else { 0 }
+    }
+
+    /// The h from which on (i, h) and (h, j) can both be held.
+    fn start(&self, i: usize, j: usize) -> usize {
+        self.first_column[i].max(self.first_row[j])
+    }
+
+    /// Whether some h below both i and j has (i, h) and (h, j) held.
+    #[inline(always)]
+    fn filled(&self, i: usize, j: usize, work: &[u32]) -> bool {
+        let start = self.start(i, j);
+        start < i.min(j) && self.search(i, j, start, work)
+    }
+
+    fn search(&self, i: usize, j: usize, start: usize, work: &[u32]) -> bool {
+        let mut walk = Walk::new(self.n, i, j, start);
+        while walk.h < i.min(j) {
+            if work[walk.lower] != 0 && work[walk.upper] != 0 {
+                return true;
+            }
+            walk.advance();
+        }
+        false
+    }
+
+    /// Takes note of a held place; its slot.
+    fn hold(&mut self, i: usize, j: usize) -> u32 {
+        self.first_column[i] = self.first_column[i].min(j);
+        self.first_row[j] = self.first_row[j].min(i);
+        if i > j {
+            self.below[j] += 1;
+        } else if j > i {
+            self.right[i] += 1;
+        }
+        self.slots += 1;
+        self.slots as u32
+    }
+
+    fn products(&self) -> usize {
+        self.below.iter().zip(&self.right).map(|(below, right)| below * right + below + right).sum()
+    }
+
+    fn records(&self) -> usize {
+        let above: usize = self.right.iter().sum();
+        1 + 2 * (self.slots + 2 * self.n) + self.products() + self.n + above
+    }
+
+    fn write(&self, plan: &[u32], work: &[u32], words: &mut [u32]) {
+        words[..4].copy_from_slice(&[self.n as u32, plan.len() as u32, self.slots as u32, 1]);
+        let mut formulas = Formulas { table: self, plan, position: 0, work, words, record: 1 };
+        let mut label = 0;
+        for m in 1..=self.n {
+            let pivot = work[label];
+            for i in m..=self.n {
+                if work[label] != 0 {
+                    formulas.inner(i, m, label);
+                    formulas.put(if i == m { 9 } else { 8 }, 0, 0);
+                }
+                label += 1;
+            }
+            formulas.y(m, pivot);
+            for j in m + 1..=self.n {
+                if work[label] != 0 {
+                    formulas.inner(m, j, label);
+                    formulas.put(7, pivot, 0);
+                    formulas.put(8, 0, 0);
+                }
+                label += 1;
+            }
+        }
+        (1..=self.n).rev().for_each(|i| formulas.x(i));
+        words[4 * self.records() - 1] = 0;
+    }
+}
+
+/// The records being written, and how far the plan has been followed.
+struct Formulas<'a> {
+    table: &'a Table,
+    plan: &'a [u32],
+    position: usize,
+    work: &'a [u32],
+    words: &'a mut [u32],
+    record: usize,
+}
+
+impl Formulas<'_> {
+    fn put(&mut self, kind: u32, p: u32, q: u32) {
+        let at = 4 * self.record;
+        self.record += 1;
+        self.words[at..at + 4].copy_from_slice(&[kind, p, q, self.record as u32]);
+    }
+
+    /// The opening of l or u at a place, and its products. The places come by rising label.
+    fn inner(&mut self, i: usize, j: usize, label: usize) {
+        let planned = self.plan.get(self.position) == Some(&(label as u32 + 1));
+        self.position += usize::from(planned);
+        self.put(1, if planned { self.position as u32 } else { 0 }, self.work[label]);
+        let end = i.min(j);
+        let start = self.table.start(i, j);
+        if start >= end {
+            return;
+        }
+        let mut walk = Walk::new(self.table.n, i, j, start);
+        while walk.h < end {
+            let (l, u) = (self.work[walk.lower], self.work[walk.upper]);
+            if l != 0 && u != 0 {
+                self.put(4, l, u);
+            }
+            walk.advance();
+        }
+    }
+
+    fn y(&mut self, m: usize, pivot: u32) {
+        self.put(2, m as u32, 0);
+        let start = self.table.first_column[m];
+        let mut walk = Walk::new(self.table.n, m, m, start);
+        while walk.h < m {
+            let l = self.work[walk.lower];
+            if l != 0 {
+                self.put(5, l, walk.h as u32);
+            }
+            walk.advance();
+        }
+        self.put(7, pivot, 0);
+        self.put(8, 0, 0);
+    }
+
+    fn x(&mut self, i: usize) {
+        self.put(3, i as u32, 0);
+        let n = self.table.n;
+        let work = self.work;
+        let row = &work[i * (2 * n - i) - n + i..i * (2 * n - i)];
+        for (h, &u) in (i + 1..n + 1).zip(row).rev() {
+            if u != 0 {
+                self.put(6, u, h as u32);
+            }
+        }
+        self.put(8, 0, 0);
+    }
+}

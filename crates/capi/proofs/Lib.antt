@@ -1,0 +1,2 @@
+-- The laws that the proofs of `capi` share.
+pub mod Numbers

@@ -1,0 +1,50 @@
+-- `capi::crout_solve` gives the number and the numbers of what solving replies.
+use native.Mathlib.Omega.{arith}
+use borrow.Author.Needs.{needs}
+use Rattle.model.specs.Boundary.{replyNumber, replyNumbers}
+use Rattle.model.proofs.Small.{replied-small}
+use Rattle.capi.proofs.Numbers.{carried, reply-fits}
+use Rattle.capi.proofs.crout_solve.Statement.{statement}
+use Rattle.capi.proofs.crout_solve.Tie as tie
+
+solve-requires : tie.Need-solve-requires
+solve-requires c κs = search needs
+
+run-answer-requires : tie.Need-run-answer-requires
+run-answer-requires c κs =
+    reply-fits (c .before .before .before .before .before .before .before .before .before .before .before .solve .ensures .1 .0) (replied-small _ _ _ _ _ _ _ _ _) (let start = c .before .before .before .before .before .before .before .before .before .before .before .before .before .before .before .before .before .before .before .before .before .before .before .before .before in omega (arith, start .good))
+
+same-length : tie.Need-same-length
+same-length c = search needs
+
+same-length-2 : tie.Need-same-length-2
+same-length-2 c = search needs
+
+same-length-3 : tie.Need-same-length-3
+same-length-3 c = search needs
+
+same-length-4 : tie.Need-same-length-4
+same-length-4 c = search needs
+
+same-length-5 : tie.Need-same-length-5
+same-length-5 c = search needs
+
+returns : tie.Need-returns
+returns c =
+    let call = c .before .before .before .before .before .before .before .before .before .before .before .before .solve in
+    let left = call .ensures .1 .1 in
+    let numbers = carried replyNumber replyNumbers (call .ensures .1 .0) (c .run-answer .ensures) in
+    (numbers .0, (left .0, (left .1 .0, (left .1 .1 .0, (left .1 .1 .1 .0, (left .1 .1 .1 .1, numbers .1))))))
+
+pub crout-solve-spec : {M : Type 1} → statement M
+crout-solve-spec =
+    tie.close
+    (tie.spec
+    solve-requires
+    run-answer-requires
+    same-length
+    same-length-2
+    same-length-3
+    same-length-4
+    same-length-5
+    returns)

@@ -1,0 +1,68 @@
+-- One record, kind by kind: what the code's step gives is the model's step, and the state stays sound.
+use Prim.Native.Nat.{ℕ}
+use native.Mathlib.Numerals.{add-one}
+use mathlib.Core.Path.{_≡_, refl, sym, ap, ap₂, subst, _∙_}
+use mathlib.Core.List.{List}
+use borrow.Author.Tests.{ne-eqb}
+use lib.ListN.{length}
+use lib.Ieee.{Float}
+use Rattle.model.specs.Arith.{Answer, number, overflow, zeroDivisor, quotient}
+use Rattle.model.specs.Formula.{Table, C, Y, X, numberOf, entry, starting, less}
+use Rattle.model.specs.Check.{Kind, opens, subtracts, divides, none, kindOf}
+use Rattle.model.specs.Run as Run
+use Rattle.runner.specs.declared.State.{State}
+use Rattle.runner.specs.declared.Stepped.{Stepped}
+use Rattle.runner.specs.declared.Stepped.the-variants.{On}
+use Rattle.runner.specs.States.{tableOf, stateOf, steppedOf, opened, subtracted, dividedBy, answered, SoundStep, Sound, Allowed, Ready}
+
+pub table-named : (t : Table) → tableOf (numberOf t) ≡ t
+table-named C = refl
+table-named Y = refl
+table-named X = refl
+
+-- what a kind relies on
+pub allowed-as : {la lb lc ly lx : ℕ} {z : State} {k k′ : Kind} {p q : ℕ} → Ready la lb lc ly lx z k p q → k ≡ k′ → Allowed la lc ly lx z k′ p q
+allowed-as {la = la} {lc = lc} {ly = ly} {lx = lx} {z = z} {p = p} {q = q} ready e = subst (λ k. Allowed la lc ly lx z k p q) e (ready .allowed)
+
+-- no kind but 1 to 9
+pub no-kind : (k : ℕ) → (k ≡ 1 → ⊥) → (k ≡ 2 → ⊥) → (k ≡ 3 → ⊥) → (k ≡ 4 → ⊥) → (k ≡ 5 → ⊥) → (k ≡ 6 → ⊥) → (k ≡ 7 → ⊥) → (k ≡ 8 → ⊥) → (k ≡ 9 → ⊥) → kindOf k ≡ none
+unfolding kindOf
+no-kind k a b c d e f g h i = rw (kindOf, ne-eqb k 1 a, ne-eqb k 2 b, ne-eqb k 3 c, ne-eqb k 4 d, ne-eqb k 5 e, ne-eqb k 6 f, ne-eqb k 7 g, ne-eqb k 8 h, ne-eqb k 9 i)
+
+module _ (A B c y x : List Float) (z : State) (sound : Sound (length c) (length y) (length x) z) where
+  -- r with the tables c′, y′ and x′ is what a record of kind k gives
+  abbrev pub Gives : Kind → ℕ → ℕ → Stepped → List Float → List Float → List Float → Type 0
+  Gives k p q r c′ y′ x′ = (steppedOf r c′ y′ x′ ≡ Run.step A B (stateOf z c y x) k p q) × SoundStep (length c) (length y) (length x) r
+
+  -- an answer steps as the model's does, if the states after it are the model's
+  answer-gives : (a : Answer) (f : Float → State) (g : Float → Run.State) → ((v : Float) → stateOf (f v) c y x ≡ g v)
+      → ((v : Float) → Sound (length c) (length y) (length x) (f v)) → (steppedOf (answered a f) c y x ≡ Run.settledStep a g) × SoundStep (length c) (length y) (length x) (answered a f)
+  answer-gives (number v) f g same still = (ap Run.going (same v), still v)
+  answer-gives overflow f g same still = (refl, tt)
+  answer-gives zeroDivisor f g same still = (refl, tt)
+
+  module _ (k : Kind) (p q : ℕ) where
+    -- the steps of kinds 1 to 3, 4 to 6, and 7
+    pub gives-open : (t : Table) (n : ℕ) (v : Float) (r : State) → Run.step A B (stateOf z c y x) (opens t) p q ≡ Run.going (Run.opened (stateOf z c y x) t n (starting A B (stateOf z c y x .tables) t p))
+        → k ≡ opens t → r ≡ opened z (numberOf t) n v → v ≡ starting A B (stateOf z c y x .tables) t p → Gives k p q (On r) c y x
+    gives-open t n v r clause e is from =
+        rw (e, is) (
+          ap₂ (λ u w. Run.going (Run.opened (stateOf z c y x) u n w)) (table-named t) from ∙ sym clause,
+          record { named = ap numberOf (table-named t); in-c = sound .in-c; in-y = sound .in-y; in-x = sound .in-x },
+        )
+
+    pub gives-subtract : (t : Table) (u v : Float) (r : Stepped) → k ≡ subtracts t → r ≡ answered (less (z .running) u v) (subtracted z)
+        → u ≡ entry (stateOf z c y x .tables) C p → v ≡ entry (stateOf z c y x .tables) t q → Gives k p q r c y x
+    unfolding Run.step
+    gives-subtract t u v r e is left right =
+        rw (e, is, ← left, ← right)
+        (answer-gives (less (z .running) u v) (subtracted z) (Run.subtracted (stateOf z c y x)) (λ w. rw add-one)
+        (λ w. record { named = sound .named; in-c = sound .in-c; in-y = sound .in-y; in-x = sound .in-x }))
+
+    pub gives-divide : (v : Float) (r : Stepped) → k ≡ divides → r ≡ answered (quotient (z .running) v) (dividedBy z) → v ≡ entry (stateOf z c y x .tables) C p
+        → Gives k p q r c y x
+    unfolding Run.step
+    gives-divide v r e is by =
+        rw (e, is, ← by)
+        (answer-gives (quotient (z .running) v) (dividedBy z) (Run.dividedBy (stateOf z c y x)) (λ w. rw add-one)
+        (λ w. record { named = sound .named; in-c = sound .in-c; in-y = sound .in-y; in-x = sound .in-x }))

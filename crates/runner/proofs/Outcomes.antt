@@ -1,0 +1,129 @@
+-- How a run ends: 7 to 15 before the records, and what the records leave.
+use Prim.Native.Nat.{ℕ}
+use mathlib.Core.Path.{_≡_, refl, sym, ap, ap₂, subst, _∙_}
+use mathlib.Core.Bool.{Bool, true, false, cond}
+use mathlib.Core.List.{List, [], _∷_}
+use lib.Dec.{eqb}
+use lib.ListN.{length, replicate}
+use lib.Ieee.{Float}
+use borrow.Author.Tests.{eqb-true, ne-eqb}
+use Rattle.model.specs.Arith.{plusZero}
+use Rattle.model.specs.Formula.{C, Y, X}
+use Rattle.model.specs.Check.{word, Link, kindOf, Verdict, fine, refusal, check}
+use Rattle.model.specs.Run.{Outcome, solution, stopped, refusedBy, State, Stepped, going, stop, step, follow, notFinite, ran, Reply, solves, stops, refuses, reply, leaves}
+use Rattle.runner.specs.Following.{done, stands, lengthsFit, position, Fit}
+use Rattle.runner.proofs.Progress.{both}
+
+-- 7 to 13, then 14, then 15, then what the records give
+abbrev pub picked : Verdict → Bool → ℕ → Outcome → Outcome
+picked (refusal r d) fit k o = refusedBy r d
+picked fine false k o = refusedBy 14 0
+picked fine true k o = cond (eqb k 0) o (refusedBy 15 k)
+
+pub ran-is : (W : List ℕ) (A B : List Float) (lc ly lx : ℕ)
+    → ran W A B lc ly lx ≡ picked (check W) (lengthsFit W (length A) (length B) lc ly lx) (position A B) (done W A B)
+unfolding ran
+ran-is W A B lc ly lx = by (check W) (lengthsFit W (length A) (length B) lc ly lx) (eqb (notFinite 1 A) 0) refl
+  where
+    second : (b : Bool) → elim b [ false ↦ refusedBy 15 (notFinite 1 B) | true ↦ done W A B ] ≡ cond b (done W A B) (refusedBy 15 (notFinite 1 B))
+    second true = refl
+    second false = refl
+
+    by : (v : Verdict) (fit none : Bool) → eqb (notFinite 1 A) 0 ≡ none → elim v [
+      | refusal r d ↦ refusedBy r d
+      | fine ↦ elim fit [
+        | false ↦ refusedBy 14 0
+        | true ↦ elim none [ false ↦ refusedBy 15 (notFinite 1 A) | true ↦ elim (eqb (notFinite 1 B) 0) [ false ↦ refusedBy 15 (notFinite 1 B) | true ↦ done W A B ] ]
+      ]
+    ] ≡ picked v fit (cond none (notFinite 1 B) (notFinite 1 A)) (done W A B)
+    by (refusal r d) fit none e = refl
+    by fine false none e = refl
+    by fine true false e = rw e refl
+    by fine true true e = second (eqb (notFinite 1 B) 0)
+
+-- what a run that ends by o tells and leaves in tables that held c, y and x
+abbrev pub Leaves : Outcome → Reply → List Float → List Float → List Float → List Float → List Float → List Float → Type 0
+Leaves o r c y x c′ y′ x′ = (r ≡ reply o) × ((c′ ≡ leaves o C c) × ((y′ ≡ leaves o Y y) × (x′ ≡ leaves o X x)))
+
+leaves-refused : (o : Outcome) (r d : ℕ) (c y x : List Float) → o ≡ refusedBy r d → Leaves o (refuses r d) c y x c y x
+unfolding reply leaves
+leaves-refused o r d c y x e = rw e (refl, (refl, (refl, refl)))
+
+-- the records refuse by 16 and 17 alone
+abbrev pub NotRefused : Outcome → Type 0
+NotRefused (solution t p q) = Unit {0}
+NotRefused (stopped r k t n) = Unit {0}
+NotRefused (refusedBy r d) = ⊥
+
+pub follow-not-refused : (A B : List Float) (z : State) (ls : List Link) → NotRefused (follow A B z ls)
+unfolding follow
+follow-not-refused A B z [] = tt
+follow-not-refused A B z (l ∷ ls) = by (step A B z (kindOf (l .at .kind)) (l .at .p) (l .at .q)) (λ z′. follow-not-refused A B z′ ls)
+  where
+    by : (s : Stepped) → ((z′ : State) → NotRefused (follow A B z′ ls))
+        → NotRefused (elim s [ going z′ ↦ follow A B z′ ls | stop r ↦ stopped r (l .index) (z .table) (z .target) ])
+    by (going z′) rest = rest z′
+    by (stop r) rest = tt
+
+-- the reply to a solution
+abbrev pub Solves : Reply → Type 0
+Solves (solves p q) = Unit {0}
+Solves (stops r k t n) = ⊥
+Solves (refuses r d) = ⊥
+
+-- What the records leave in c₁, y₁ and x₁ is final on a solution, and is cleared else.
+module _ (c y x c₁ y₁ x₁ : List Float) where
+  pub leaves-solved : (o : Outcome) (r : Reply) → Solves r → r ≡ reply o → c₁ ≡ stands o C c₁ → y₁ ≡ stands o Y y₁ → x₁ ≡ stands o X x₁ → Leaves o r c y x c₁ y₁ x₁
+  unfolding reply leaves stands
+  leaves-solved (solution t p q) r is e ec ey ex = (e, (ec, (ey, ex)))
+  leaves-solved (stopped n k u m) r is e ec ey ex = absurd (subst Solves e is)
+  leaves-solved (refusedBy n d) r is e ec ey ex = absurd (subst Solves e is)
+
+  pub leaves-cleared : (o : Outcome) (r : Reply) → (Solves r → ⊥) → NotRefused o → r ≡ reply o → length c₁ ≡ length c → length y₁ ≡ length y → length x₁ ≡ length x
+      → Leaves o r c y x (replicate (length c₁) plusZero) (replicate (length y₁) plusZero) (replicate (length x₁) plusZero)
+  unfolding reply leaves
+  leaves-cleared (solution t p q) r is runs e lc ly lx = absurd (is (subst Solves (sym e) tt))
+  leaves-cleared (stopped n k u m) r is runs e lc ly lx = rw (lc, ly, lx) (e, (refl, (refl, refl)))
+
+module _ (W : List ℕ) (A B c y x : List Float) where
+  abbrev Fits : Bool
+  Fits = lengthsFit W (length A) (length B) (length c) (length y) (length x)
+
+  abbrev Run : Outcome
+  Run = ran W A B (length c) (length y) (length x)
+
+  run-picked : {v : Verdict} {fit : Bool} → check W ≡ v → Fits ≡ fit → Run ≡ picked v fit (position A B) (done W A B)
+  run-picked e f = ran-is W A B (length c) (length y) (length x) ∙ ap₂ (λ u b. picked u b (position A B) (done W A B)) e f
+
+  pub leaves-checked : (r d : ℕ) → check W ≡ refusal r d → Leaves Run (refuses r d) c y x c y x
+  leaves-checked r d e = leaves-refused Run r d c y x (run-picked e refl)
+
+  pub leaves-14 : check W ≡ fine → Fits ≡ false → Leaves Run (refuses 14 0) c y x c y x
+  leaves-14 e f = leaves-refused Run 14 0 c y x (run-picked e f)
+
+  pub leaves-15 : check W ≡ fine → Fits ≡ true → (k : ℕ) → k ≡ position A B → (k ≡ 0 → ⊥) → Leaves Run (refuses 15 k) c y x c y x
+  leaves-15 e f k is some =
+      leaves-refused Run 15 k c y x
+      (run-picked e f ∙ ap (λ k. cond (eqb k 0) (done W A B) (refusedBy 15 k)) (sym is) ∙ ap (λ b. cond b (done W A B) (refusedBy 15 k)) (ne-eqb k 0 some))
+
+  -- 7 to 15 passed
+  pub leaves-records : check W ≡ fine → Fits ≡ true → position A B ≡ 0 → (r : Reply) (c′ y′ x′ : List Float) → Leaves (done W A B) r c y x c′ y′ x′ → Leaves Run r c y x c′ y′ x′
+  leaves-records e f none r c′ y′ x′ l =
+      let is = run-picked e f ∙ ap (λ k. cond (eqb k 0) (done W A B) (refusedBy 15 k)) none in
+      subst (λ o. Leaves o r c y x c′ y′ x′) (sym is) l
+
+  -- and then the lengths are those that the records rely on
+  pub fit-true : check W ≡ fine → Fits ≡ true → Fit W (length A) (length B) (length c) (length y) (length x)
+  fit-true e f =
+      let a = both (eqb (length A) (word W 1)) _ f in
+      let b = both (eqb (length B) (word W 0)) _ (a .1) in
+      let s = both (eqb (length c) (word W 2)) _ (b .1) in
+      let n = both (eqb (length y) (word W 0)) (eqb (length x) (word W 0)) (s .1) in
+      record {
+        checked = e;
+        in-a = eqb-true (length A) (word W 1) (a .0);
+        in-b = eqb-true (length B) (word W 0) (b .0);
+        in-c = eqb-true (length c) (word W 2) (s .0);
+        in-y = eqb-true (length y) (word W 0) (n .0);
+        in-x = eqb-true (length x) (word W 0) (n .1);
+      }

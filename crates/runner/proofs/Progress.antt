@@ -1,0 +1,102 @@
+-- The run of a checked program keeps to its check: what is closed in the run's state is what the check counts, and a target that is open has room.
+use Prim.Native.Nat.{ℕ, suc, _+_, _≤_, _<_}
+use native.Mathlib.Omega.{arith}
+use mathlib.Core.Path.{_≡_, refl, ap}
+use mathlib.Core.Bool.{Bool, true, false, cond, _&&_, and-eq-true-iff, false≢true}
+use mathlib.Core.List.{List}
+use lib.Dec.{leb, ltb, eqb}
+use lib.ListN.{length, length-append}
+use lib.Ieee.{Float}
+use borrow.Author.Tests.{ltb-true, leb-true, eqb-true}
+use Rattle.model.specs.Arith.{Answer, number, overflow, zeroDivisor, quotient, isZero}
+use Rattle.model.specs.Label.{within}
+use Rattle.model.specs.Formula.{Table, C, Y, X, Tables, entry, closed, less}
+use Rattle.model.specs.Check.{Open, idle, busy, Progress, Kind, opens, subtracts, divides, closes, closesPivot, none, inOrder, inTurn, counted, onward}
+use Rattle.model.specs.Run.{State, Stepped, going, stop, closing, subtracted, dividedBy, settledStep, step}
+
+-- what is closed in a state, where o is open
+abbrev pub progressOf : Open → State → Progress
+progressOf o z = record { target = o; c = length (z .tables .c); y = length (z .tables .y); x = length (z .tables .x) }
+
+-- how many entries of a table are closed, and how many it has
+abbrev pub closedIn : Table → Tables → ℕ
+closedIn C t = length (t .c)
+closedIn Y t = length (t .y)
+closedIn X t = length (t .x)
+
+abbrev pub lengthOf : ℕ → ℕ → Table → ℕ
+lengthOf N s C = s
+lengthOf N s Y = N
+lengthOf N s X = N
+
+-- the open table is the state's, and has an entry that is not closed
+abbrev pub Room : ℕ → ℕ → Open → State → Type 0
+Room N s idle z = Unit {0}
+Room N s (busy t) z = (z .table ≡ t) × (closedIn t (z .tables) < lengthOf N s t)
+
+-- both of two tests
+pub both : (a b : Bool) → a && b ≡ true → (a ≡ true) × (b ≡ true)
+both a b = and-eq-true-iff a b .0
+
+pub within-true : (k n : ℕ) → within k n ≡ true → (0 < k) × (k ≤ n)
+within-true k n e =
+    let t = both (ltb 0 k) (leb k n) e in
+    (ltb-true 0 k (t .0), leb-true k n (t .1))
+
+-- the state after a record of kind k: its progress is the check's, a target that is open has room, and at most one operation more was made
+pub record After (N s : ℕ) (o : Open) (z : State) (k : Kind) (z′ : State) : Type 0 where
+  pub progress : progressOf (onward k (progressOf o z) .target) z′ ≡ onward k (progressOf o z)
+  pub room : Room N s (onward k (progressOf o z) .target) z′
+  pub made : z′ .products + z′ .quotients ≤ suc (z .products + z .quotients)
+
+abbrev pub AfterStep : ℕ → ℕ → Open → State → Kind → Stepped → Type 0
+AfterStep N s o z k (going z′) = After N s o z k z′
+AfterStep N s o z k (stop r) = Unit {0}
+
+module _ (A B : List Float) (N n s : ℕ) (z : State) (p q : ℕ) where
+  answered-after : (o : Open) (k : Kind) (a : Answer) (f : Float → State) → ((v : Float) → After N s o z k (f v)) → AfterStep N s o z k (settledStep a f)
+  answered-after o k (number v) f after = after v
+  answered-after o k overflow f after = tt
+  answered-after o k zeroDivisor f after = tt
+
+  closed-after : (u : Table) → Room N s (busy u) z → progressOf idle (closing z) ≡ counted (busy u) (progressOf (busy u) z)
+  unfolding closed
+  closed-after C room = rw (room .0, closed, length-append) (ap (λ m. record { target = idle; c = m; y = length (z .tables .y); x = length (z .tables .x) }) (omega arith))
+  closed-after Y room = rw (room .0, closed, length-append) (ap (λ m. record { target = idle; c = length (z .tables .c); y = m; x = length (z .tables .x) }) (omega arith))
+  closed-after X room = rw (room .0, closed)
+
+  tested-after : (zero? : Bool) → Room N s (busy C) z → AfterStep N s (busy C) z closesPivot (cond zero? (stop 17) (going (closing z)))
+  tested-after true room = tt
+  tested-after false room = record { progress = closed-after C room; room = tt; made = omega arith }
+
+  -- a record that passes 11 and 12 leads to such a state
+  pub after-step : (o : Open) (k : Kind) → inOrder k o ≡ true → inTurn N n s k p q (progressOf o z) ≡ true → Room N s o z → AfterStep N s o z k (step A B z k p q)
+  unfolding inOrder inTurn step
+  after-step idle (opens C) order turn room =
+      let t = both (leb p n) (eqb q (suc (length (z .tables .c))) && leb q s) turn in
+      let u = both (eqb q (suc (length (z .tables .c)))) (leb q s) (t .1) in
+      record { progress = refl; room = (refl, omega (arith, eqb-true q (suc (length (z .tables .c))) (u .0), leb-true q s (u .1))); made = omega arith }
+  after-step idle (opens Y) order turn room =
+      let t = both (eqb p (suc (length (z .tables .y)))) (leb p N) turn in
+      record { progress = refl; room = (refl, omega (arith, eqb-true p (suc (length (z .tables .y))) (t .0), leb-true p N (t .1))); made = omega arith }
+  after-step idle (opens X) order turn room =
+      let t = both (ltb 0 p && eqb (p + length (z .tables .x)) N) (leb p (length (z .tables .y))) turn in
+      let u = both (ltb 0 p) (eqb (p + length (z .tables .x)) N) (t .0) in
+      record { progress = refl; room = (refl, omega (arith, ltb-true 0 p (u .0), eqb-true (p + length (z .tables .x)) N (u .1))); made = omega arith }
+  after-step (busy u) (subtracts t) order turn room =
+      answered-after (busy u) (subtracts t) (less (z .running) (entry (z .tables) C p) (entry (z .tables) t q)) (subtracted z)
+      (λ v. record { progress = refl; room = room; made = omega arith })
+  after-step (busy u) divides order turn room =
+      answered-after (busy u) divides (quotient (z .running) (entry (z .tables) C p)) (dividedBy z) (λ v. record { progress = refl; room = room; made = omega arith })
+  after-step (busy C) closes order turn room = record { progress = closed-after C room; room = tt; made = omega arith }
+  after-step (busy Y) closes order turn room = record { progress = closed-after Y room; room = tt; made = omega arith }
+  after-step (busy X) closes order turn room = record { progress = closed-after X room; room = tt; made = omega arith }
+  after-step (busy C) closesPivot order turn room = tested-after (isZero (z .running)) room
+  after-step o none order turn room = record { progress = refl; room = room; made = omega arith }
+  after-step (busy u) (opens t) order turn room = absurd (false≢true order)
+  after-step idle (subtracts t) order turn room = absurd (false≢true order)
+  after-step idle divides order turn room = absurd (false≢true order)
+  after-step idle closes order turn room = absurd (false≢true order)
+  after-step idle closesPivot order turn room = absurd (false≢true order)
+  after-step (busy Y) closesPivot order turn room = absurd (false≢true order)
+  after-step (busy X) closesPivot order turn room = absurd (false≢true order)

@@ -1,0 +1,60 @@
+-- What the check says of a record is what the step relies on.
+use Prim.Native.Nat.{ℕ, suc, _+_, _-_}
+use native.Mathlib.Omega.{arith}
+use mathlib.Core.Path.{_≡_}
+use mathlib.Core.Bool.{true, _&&_, false≢true}
+use mathlib.Core.List.{List}
+use lib.Dec.{leb, ltb, eqb}
+use lib.ListN.{length, take, drop}
+use lib.Ieee.{Float}
+use borrow.Author.Tests.{ltb-true, leb-true, eqb-true}
+use Rattle.model.specs.Label.{within}
+use Rattle.model.specs.Formula.{Table, C, Y, X}
+use Rattle.model.specs.Check.{Open, idle, busy, Kind, opens, subtracts, divides, closes, closesPivot, none, inOrder, inTurn}
+use Rattle.runner.specs.declared.State.{State}
+use Rattle.runner.specs.States.{stateOf, Sound, Free, Allowed}
+use Rattle.runner.proofs.Steps.{Counts, counted}
+use Rattle.runner.proofs.Progress.{progressOf, Room, both, within-true}
+
+module _ (N n s : ℕ) (A c y x : List Float) (z : State) (sound : Sound (length c) (length y) (length x) z) (in-a : length A ≡ n) (in-c : length c ≡ s) (in-y : length y ≡ N) (in-x : length x ≡ N) where
+  counts : Counts z c y x
+  counts = counted z c y x sound
+
+  -- an open target has room
+  room-free : (u : Table) → Room N s (busy u) (stateOf z c y x) → Free (length c) (length y) (length x) z
+  room-free C room = rw (room .0) (omega (arith, counts .of-c, room .1))
+  room-free Y room = rw (room .0) (omega (arith, counts .of-y, room .1))
+  room-free X room = rw (room .0) (omega (arith, counts .of-x, room .1))
+
+  module _ (p q : ℕ) where
+    -- kind by kind
+    pub relies : (o : Open) (k : Kind) → inOrder k o ≡ true → inTurn N n s k p q (progressOf o (stateOf z c y x)) ≡ true → Room N s o (stateOf z c y x)
+        → Allowed (length A) (length c) (length y) (length x) z k p q
+    unfolding inOrder inTurn
+    relies o (opens C) order turn room =
+        let t = both (leb p n) (eqb q (suc (length (take (z .c) c))) && leb q s) turn in
+        omega (arith, leb-true p n (t .0))
+    relies o (opens Y) order turn room =
+        let t = both (eqb p (suc (length (take (z .y) y)))) (leb p N) turn in
+        omega (arith, eqb-true p (suc (length (take (z .y) y))) (t .0), leb-true p N (t .1))
+    relies o (opens X) order turn room =
+        let t = both (ltb 0 p && eqb (p + length (drop (length x - z .x) x)) N) (leb p (length (take (z .y) y))) turn in
+        let u = both (ltb 0 p) (eqb (p + length (drop (length x - z .x) x)) N) (t .0) in
+        omega (arith, counts .of-y, ltb-true 0 p (u .0), leb-true p (length (take (z .y) y)) (t .1))
+    relies o (subtracts C) order turn room =
+        let t = both (within p (length (take (z .c) c))) (within q (length (take (z .c) c))) turn in
+        omega (arith, counts .of-c, within-true p (length (take (z .c) c)) (t .0), within-true q (length (take (z .c) c)) (t .1))
+    relies o (subtracts Y) order turn room =
+        let t = both (within p (length (take (z .c) c))) (within q (length (take (z .y) y))) turn in
+        omega (arith, counts .of-c, counts .of-y, within-true p (length (take (z .c) c)) (t .0), within-true q (length (take (z .y) y)) (t .1))
+    relies o (subtracts X) order turn room =
+        let m = N - length (drop (length x - z .x) x) in
+        let t = both (within p (length (take (z .c) c))) (ltb m q && leb q N) turn in
+        let u = both (ltb m q) (leb q N) (t .1) in
+        omega (arith, counts .of-c, counts .of-x, within-true p (length (take (z .c) c)) (t .0), ltb-true m q (u .0), leb-true q N (u .1))
+    relies o divides order turn room = omega (arith, counts .of-c, within-true p (length (take (z .c) c)) turn)
+    relies (busy u) closes order turn room = room-free u room
+    relies idle closes order turn room = absurd (false≢true order)
+    relies (busy u) closesPivot order turn room = room-free u room
+    relies idle closesPivot order turn room = absurd (false≢true order)
+    relies o none order turn room = tt

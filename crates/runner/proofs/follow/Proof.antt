@@ -1,0 +1,236 @@
+-- `runner::follow` follows the chain of a checked program. The invariant: a record ran last, and `next` (in the inner loop k) is to run next.
+-- The measures are the records from there on.
+use Prim.Native.Nat.{_-_, _/_, _≤_, _<_}
+use native.Mathlib.Omega.{arith}
+use mathlib.Core.Path.{_≡_, refl, sym, subst, _∙_}
+use lib.ListN.{length}
+use borrow.Author.Needs.{needs}
+use Rattle.runner.proofs.Running.{fine-whole}
+use Rattle.runner.proofs.Turns.{Same, same-trans, Ran, Before, left, starts, ended, fits, ready, turned, stopped-at, gets-on}
+use Rattle.runner.proofs.follow.Statement.{statement}
+use Rattle.runner.proofs.follow.Tie as tie
+
+abbrev Inv-loop2 : tie.InvT-loop2
+Inv-loop2 words a b c₀ y₀ x₀ z₀ next₀ k₀ c y x z next k = Same c₀ y₀ x₀ c y x × (Before words a b c y x z k × ((k ≡ 0 → ⊥) × (k₀ ≤ k)))
+
+abbrev μ-loop2 : tie.MeasureT-loop2
+μ-loop2 words a b c₀ y₀ x₀ z₀ next₀ k₀ c y x z next k = length words / 4 - k
+
+abbrev Inv-loop : tie.InvT-loop
+Inv-loop words a b c₀ y₀ x₀ z₀ next₀ c y x z next = Same c₀ y₀ x₀ c y x × Before words a b c y x z next
+
+abbrev μ-loop : tie.MeasureT-loop
+μ-loop words a b c₀ y₀ x₀ z₀ next₀ c y x z next = left words next
+
+abbrev start : tie.At-loop2 Inv-loop2 μ-loop2 Inv-loop μ-loop → tie.Start Inv-loop2 μ-loop2 Inv-loop μ-loop
+start c = c .before .before .before .before .before .before .before .before .before .before .before .before
+
+abbrev turn : tie.After-step Inv-loop2 μ-loop2 Inv-loop μ-loop → tie.At-loop2 Inv-loop2 μ-loop2 Inv-loop μ-loop
+turn c = c .before .before .before .before .before .before .before
+
+abbrev stepped : tie.After-known-told Inv-loop2 μ-loop2 Inv-loop μ-loop → tie.After-step Inv-loop2 μ-loop2 Inv-loop μ-loop
+stepped c = c .before .before .before .before .before .before .before .before .before
+
+low : (c : tie.At-loop2 Inv-loop2 μ-loop2 Inv-loop μ-loop) → c .loop2 .k < length (start c .args .words .now) / 4
+low c =
+    let a = start c .args in
+    let l = c .loop2 in
+    fits (a .words .now) (a .a .now) (a .b .now) (l .c) (l .y) (l .x) (l .z) (l .k) (l .inv .1 .0) (l .inv .1 .1 .0)
+
+few : (c : tie.At-loop2 Inv-loop2 μ-loop2 Inv-loop μ-loop) → length (start c .args .words .now) / 4 ≤ 100000000
+few c = c .loop2 .inv .1 .0 .ran .whole .few
+
+ran-on : (c : tie.After-known-told Inv-loop2 μ-loop2 Inv-loop μ-loop)
+    → Ran (start (turn (stepped c)) .args .words .now) (start (turn (stepped c)) .args .a .now) (start (turn (stepped c)) .args .b .now)
+    (stepped c .step .last .1 .1 .1 .1 .1 .1 .0) (stepped c .step .last .1 .1 .1 .1 .1 .1 .1 .0) (stepped c .step .last .1 .1 .1 .1 .1 .1 .1 .1 .0) (c .before .after .given .0 .0) (turn (stepped c) .loop2 .k)
+ran-on c =
+    let s = stepped c .step in
+    let a = start (turn (stepped c)) .args in
+    let l = turn (stepped c) .loop2 in
+    turned (a .words .now) (a .a .now) (a .b .now) (l .c) (l .y) (l .x) (l .z) (l .k) (l .inv .1 .0) (l .inv .1 .1 .0) _ _ _ (s .result)
+    (s .kept .1 .1 .1 .1 .1 .1 .0) (s .kept .1 .1 .1 .1 .1 .1 .1 .0) (s .kept .1 .1 .1 .1 .1 .1 .1 .1 .0) (s .ensures .0) (s .ensures .1) _ (c .before .after .given .1)
+
+-- the lengths after a step are those at the inner loop's start, and those at the function's entry
+same-turn : (c : tie.After-step Inv-loop2 μ-loop2 Inv-loop μ-loop) → let l = turn c .before .before .loop in Same (l .c) (l .y) (l .x) (c .step .last .1 .1 .1 .1 .1 .1 .0) (c .step .last .1 .1 .1 .1 .1 .1 .1 .0) (c .step .last .1 .1 .1 .1 .1 .1 .1 .1 .0)
+same-turn c = same-trans (turn c .loop2 .inv .0) (record { of-c = c .step .kept .1 .1 .1 .1 .1 .1 .0; of-y = c .step .kept .1 .1 .1 .1 .1 .1 .1 .0; of-x = c .step .kept .1 .1 .1 .1 .1 .1 .1 .1 .0 })
+
+same-entry : (c : tie.After-step Inv-loop2 μ-loop2 Inv-loop μ-loop) → let a = start (turn c) .args in Same (a .c .now) (a .y .now) (a .x .now) (c .step .last .1 .1 .1 .1 .1 .1 .0) (c .step .last .1 .1 .1 .1 .1 .1 .1 .0) (c .step .last .1 .1 .1 .1 .1 .1 .1 .1 .0)
+same-entry c = same-trans (turn c .before .before .loop .inv .0) (same-turn c)
+
+fresh-requires : tie.Need-fresh-requires Inv-loop2 μ-loop2 Inv-loop μ-loop
+fresh-requires c κs = search needs
+
+shared-slice-read-wide : tie.Need-shared-slice-read-wide Inv-loop2 μ-loop2 Inv-loop μ-loop
+shared-slice-read-wide c = omega (arith, fine-whole (c .before .before .before .before .before .before .before .before .args .words .now) (c .before .before .before .before .before .before .before .before .pre .checked))
+
+wide-requires : tie.Need-wide-requires Inv-loop2 μ-loop2 Inv-loop μ-loop
+wide-requires c κs = search needs
+
+loop-holds : tie.Need-loop-holds Inv-loop2 μ-loop2 Inv-loop μ-loop
+loop-holds c =
+    let a = c .before .before .before .before .before .before .before .before .before .args in (
+      record { of-c = refl; of-y = refl; of-x = refl },
+      record {
+        last = 0;
+        is = sym (c .wide .ensures);
+        ran = subst (λ z. Ran (a .words .now) (a .a .now) (a .b .now) (a .c .now) (a .y .now) (a .x .now) z 0) (sym (c .before .before .fresh .ensures)) (starts (a .words .now) (a .a .now) (a .b .now) (a .c .now) (a .y .now) (a .x .now) (c .before .before .before .before .before .before .before .before .before .pre));
+      },
+    )
+
+loop2-holds : tie.Need-loop2-holds Inv-loop2 μ-loop2 Inv-loop μ-loop
+loop2-holds c = (record { of-c = refl; of-y = refl; of-x = refl }, (c .before .loop .inv .1, (c .loop-test .taken, omega arith)))
+
+mul-at : tie.Need-mul-at Inv-loop2 μ-loop2 Inv-loop μ-loop
+mul-at c = omega (arith, low (c), few (c))
+
+add-following : tie.Need-add-following Inv-loop2 μ-loop2 Inv-loop μ-loop
+add-following c = omega (arith, low c, few c)
+
+mul-step : tie.Need-mul-step Inv-loop2 μ-loop2 Inv-loop μ-loop
+mul-step c = omega (arith, low (c), few (c))
+
+shared-slice-read-step : tie.Need-shared-slice-read-step Inv-loop2 μ-loop2 Inv-loop μ-loop
+shared-slice-read-step c = omega (arith, low (c .before), few (c .before))
+
+add-step : tie.Need-add-step Inv-loop2 μ-loop2 Inv-loop μ-loop
+add-step c = omega (arith, low (c .before), few (c .before))
+
+mul-step-2 : tie.Need-mul-step-2 Inv-loop2 μ-loop2 Inv-loop μ-loop
+mul-step-2 c = omega (arith, low (c .before), few (c .before))
+
+shared-slice-read-step-2 : tie.Need-shared-slice-read-step-2 Inv-loop2 μ-loop2 Inv-loop μ-loop
+shared-slice-read-step-2 c = omega (arith, low (c .before .before), few (c .before .before))
+
+add-step-2 : tie.Need-add-step-2 Inv-loop2 μ-loop2 Inv-loop μ-loop
+add-step-2 c = omega (arith, low (c .before .before), few (c .before .before))
+
+mul-step-3 : tie.Need-mul-step-3 Inv-loop2 μ-loop2 Inv-loop μ-loop
+mul-step-3 c = omega (arith, low (c .before .before), few (c .before .before))
+
+shared-slice-read-step-3 : tie.Need-shared-slice-read-step-3 Inv-loop2 μ-loop2 Inv-loop μ-loop
+shared-slice-read-step-3 c = omega (arith, low (c .before .before .before), few (c .before .before .before))
+
+step-requires : tie.Need-step-requires Inv-loop2 μ-loop2 Inv-loop μ-loop
+step-requires c κs =
+    let a = start (c .before .before .before .before .before .before) .args in
+    let l = c .before .before .before .before .before .before .loop2 in
+    ready (a .words .now) (a .a .now) (a .b .now) (l .c) (l .y) (l .x) (l .z) (l .k) (l .inv .1 .0) (l .inv .1 .1 .0)
+
+enum-known-after : tie.Need-enum-known-after Inv-loop2 μ-loop2 Inv-loop μ-loop
+enum-known-after c = search needs
+
+enum-known-number : tie.Need-enum-known-number Inv-loop2 μ-loop2 Inv-loop μ-loop
+enum-known-number c = search needs
+
+cast-t35 : tie.Need-cast-t35 Inv-loop2 μ-loop2 Inv-loop μ-loop
+cast-t35 c = omega (arith, low (c .before .before .before .before .before .before .before .before .before .before .before .before .before .before .before .before), few (c .before .before .before .before .before .before .before .before .before .before .before .before .before .before .before .before))
+
+same-length : tie.Need-same-length Inv-loop2 μ-loop2 Inv-loop μ-loop
+same-length c = same-entry (c .before .before .before .before .before .before .before .before .before) .of-c
+
+same-length-2 : tie.Need-same-length-2 Inv-loop2 μ-loop2 Inv-loop μ-loop
+same-length-2 c = same-entry (c .before .before .before .before .before .before .before .before .before) .of-y
+
+same-length-3 : tie.Need-same-length-3 Inv-loop2 μ-loop2 Inv-loop μ-loop
+same-length-3 c = same-entry (c .before .before .before .before .before .before .before .before .before) .of-x
+
+returns : tie.Need-returns Inv-loop2 μ-loop2 Inv-loop μ-loop
+returns c =
+    let s = c .before .before .before .before .before .before .before .before .before in
+    let a = start (turn s) .args in
+    let l = turn s .loop2 in
+    stopped-at (a .words .now) (a .a .now) (a .b .now) (l .c) (l .y) (l .x) (l .z) (l .k) (l .inv .1 .0) (l .inv .1 .1 .0) _ _ _ (s .step .result)
+    (s .step .kept .1 .1 .1 .1 .1 .1 .0) (s .step .kept .1 .1 .1 .1 .1 .1 .1 .0) (s .step .kept .1 .1 .1 .1 .1 .1 .1 .1 .0) (s .step .ensures .0) (s .step .ensures .1) _ (c .before .number .given .1)
+
+add-wide : tie.Need-add-wide Inv-loop2 μ-loop2 Inv-loop μ-loop
+add-wide c = omega (arith, low (c .before .before .before .before .before .before .before .before .before .before .before .before .before .before .before .before), few (c .before .before .before .before .before .before .before .before .before .before .before .before .before .before .before .before))
+
+mul-wide : tie.Need-mul-wide Inv-loop2 μ-loop2 Inv-loop μ-loop
+mul-wide c = omega (arith, low (c .before .before .before .before .before .before .before .before .before .before .before .before .before .before .before .before), few (c .before .before .before .before .before .before .before .before .before .before .before .before .before .before .before .before))
+
+shared-slice-read-wide-2 : tie.Need-shared-slice-read-wide-2 Inv-loop2 μ-loop2 Inv-loop μ-loop
+shared-slice-read-wide-2 c = omega (arith, low (c .before .before .before .before .before .before .before .before .before .before .before .before .before .before .before .before .before), few (c .before .before .before .before .before .before .before .before .before .before .before .before .before .before .before .before .before))
+
+wide-requires-2 : tie.Need-wide-requires-2 Inv-loop2 μ-loop2 Inv-loop μ-loop
+wide-requires-2 c κs = search needs
+
+loop-less : tie.Need-loop-less Inv-loop2 μ-loop2 Inv-loop μ-loop
+loop-less c =
+    let s = stepped (c .before .before .before) in
+    let a = start (turn s) .args in
+    let l = turn s .loop2 in
+    gets-on (a .words .now) (a .a .now) (a .b .now) _ _ _ _ _ (l .k) (c .before .wide2 .result) (turn s .before .loop-test .taken) (l .inv .1 .1 .1) (low (turn s)) (ran-on (c .before .before .before)) (sym (c .before .wide2 .ensures))
+
+loop-again : tie.Need-loop-again Inv-loop2 μ-loop2 Inv-loop μ-loop
+loop-again c =
+    let s = stepped (c .before .before .before) in
+    (same-entry s, record { last = turn s .loop2 .k; is = sym (c .before .wide2 .ensures); ran = ran-on (c .before .before .before) })
+
+loop2-less : tie.Need-loop2-less Inv-loop2 μ-loop2 Inv-loop μ-loop
+loop2-less c = omega (arith, low (c .before .before .before .before .before .before .before .before .before .before .before .before .before .before .before .before .before .before .before))
+
+loop2-again : tie.Need-loop2-again Inv-loop2 μ-loop2 Inv-loop μ-loop
+loop2-again c =
+    let s = stepped (c .before .before .before) in (
+      same-turn s,
+      (record { last = turn s .loop2 .k; is = sym (c .before .wide2 .ensures) ∙ c .if1 .left; ran = ran-on (c .before .before .before) }, (λ e. omega arith, omega (arith, turn s .loop2 .inv .1 .1 .1))),
+    )
+
+same-length-4 : tie.Need-same-length-4 Inv-loop2 μ-loop2 Inv-loop μ-loop
+same-length-4 c = c .before .loop .inv .0 .of-c
+
+same-length-5 : tie.Need-same-length-5 Inv-loop2 μ-loop2 Inv-loop μ-loop
+same-length-5 c = c .before .loop .inv .0 .of-y
+
+same-length-6 : tie.Need-same-length-6 Inv-loop2 μ-loop2 Inv-loop μ-loop
+same-length-6 c = c .before .loop .inv .0 .of-x
+
+returns-2 : tie.Need-returns-2 Inv-loop2 μ-loop2 Inv-loop μ-loop
+returns-2 c =
+    let a = c .before .before .before .before .before .before .before .before .before .before .before .args in
+    let l = c .before .loop in
+    ended (a .words .now) (a .a .now) (a .b .now) (l .c) (l .y) (l .x) (l .z) (subst (Before (a .words .now) (a .a .now) (a .b .now) (l .c) (l .y) (l .x) (l .z)) (c .loop-test .left) (l .inv .1))
+
+pub follow-spec : {M : Type 1} → statement M
+follow-spec =
+    tie.close
+    (tie.spec
+    Inv-loop2
+    μ-loop2
+    Inv-loop
+    μ-loop
+    fresh-requires
+    shared-slice-read-wide
+    wide-requires
+    loop-holds
+    loop2-holds
+    mul-at
+    add-following
+    mul-step
+    shared-slice-read-step
+    add-step
+    mul-step-2
+    shared-slice-read-step-2
+    add-step-2
+    mul-step-3
+    shared-slice-read-step-3
+    step-requires
+    enum-known-after
+    enum-known-number
+    cast-t35
+    same-length
+    same-length-2
+    same-length-3
+    returns
+    add-wide
+    mul-wide
+    shared-slice-read-wide-2
+    wide-requires-2
+    loop-less
+    loop-again
+    loop2-less
+    loop2-again
+    same-length-4
+    same-length-5
+    same-length-6
+    returns-2)

@@ -1,0 +1,4 @@
+-- What the contracts of `runner` cite.
+pub mod Outcome
+pub mod States
+pub mod Following

@@ -1,0 +1,56 @@
+// Solving as one call: the plan is compiled, and the program is run.
+//
+// The contract of `solve` is demand 3. It cites the checks 1 to 6, 14 and 15 and dense Crout alone (`solving` in crates/model/specs/Solve.antt): for
+// every input the answer and every lent slice are given; for an accepted plan and finite values they are dense Crout's, bit for bit, with the plan's
+// product count, or 16 or 17 at the same formula. A plan refused for a missing pivot is solved by dense Crout for no finite values: that is
+// the law `never-solved` in crates/model/proofs/Reduction.antt.
+use compiler::Compilation;
+use runner::Outcome;
+ghost use mathlib.Core.Path.{_≡_};
+ghost use lib.ListN.{length};
+ghost use Rattle.model.specs.Formula.{C, Y, X};
+ghost use Rattle.model.specs.Compile.{workAfter, wordsAfter};
+ghost use Rattle.model.specs.Solve.{solving, told, tellsOf, replied, leftIn};
+ghost use Rattle.runner.specs.Outcome.{replyOf};
+
+// How solving ends: as a run does, or by the compiler's refusal.
+pub type Solved = Outcome;
+
+// Solves the system of a plan of order n with the coefficients A and the right side B. work and words are lent to the compiler, C, Y and X to the run.
+pub fn solve(
+    n: u32,
+    plan: &[u32],
+    a: &[f64],
+    b: &[f64],
+    work: &mut [u32],
+    words: &mut [u32],
+    c: &mut [f64],
+    y: &mut [f64],
+    x: &mut [f64],
+) -> Solved
+    ensures answer { λ r. ⌜ tellsOf (replyOf r) ≡ told (solving n (now (plan .entry)) (now (a .entry)) (now (b .entry)) (length (now (work .entry))) (length (now (words .entry))) (length (now (c .entry))) (length (now (y .entry))) (length (now (x .entry)))) ⌝ }
+    ensures record { λ r. ⌜ replyOf r ≡ replied n (now (plan .entry)) (now (a .entry)) (now (b .entry)) (length (now (work .entry))) (length (now (words .entry))) (length (now (c .entry))) (length (now (y .entry))) (length (now (x .entry))) ⌝ }
+    ensures work { λ r. ⌜ now (work .exit) ≡ workAfter n (now (plan .entry)) (now (work .entry)) (length (now (words .entry))) ⌝ }
+    ensures words { λ r. ⌜ now (words .exit) ≡ wordsAfter n (now (plan .entry)) (length (now (work .entry))) (now (words .entry)) ⌝ }
+    ensures c { λ r. ⌜ now (c .exit) ≡ leftIn (solving n (now (plan .entry)) (now (a .entry)) (now (b .entry)) (length (now (work .entry))) (length (now (words .entry))) (length (now (c .entry))) (length (now (y .entry))) (length (now (x .entry)))) C (now (c .entry)) ⌝ }
+    ensures y { λ r. ⌜ now (y .exit) ≡ leftIn (solving n (now (plan .entry)) (now (a .entry)) (now (b .entry)) (length (now (work .entry))) (length (now (words .entry))) (length (now (c .entry))) (length (now (y .entry))) (length (now (x .entry)))) Y (now (y .entry)) ⌝ }
+    ensures x { λ r. ⌜ now (x .exit) ≡ leftIn (solving n (now (plan .entry)) (now (a .entry)) (now (b .entry)) (length (now (work .entry))) (length (now (words .entry))) (length (now (c .entry))) (length (now (y .entry))) (length (now (x .entry)))) X (now (x .entry)) ⌝ }
+{
+    match compiler::compile(n, plan, work, words) {
+        Compilation::Refused { number, detail } => Outcome::Refused { number, detail },
+        Compilation::Written {
+            slots: _,
+            products: _,
+            records,
+        } => {
+            let end = 4 * wide(records);
+            runner::run(&words[..end], a, b, c, y, x)
+        }
+    }
+}
+
+fn wide(x: u32) -> usize
+    ensures { λ r. ⌜ r ≡ x ⌝ }
+{
+    x as usize
+}

@@ -1,0 +1,238 @@
+/* Every function of crout.h, called as a C program calls them, on document 01's known plans and values. The first difference
+   ends the program with a message and status 1.
+
+   GROUPS says how many groups of functions the library has: 1 labels, 2 compile, 3 check, write and read, 4 run and solve. */
+#include "crout.h"
+
+#include <stdio.h>
+#include <stdlib.h>
+#include <string.h>
+
+#ifndef GROUPS
+#define GROUPS 4
+#endif
+
+#define COUNT(row) (sizeof(row) / sizeof((row)[0]))
+
+static void expect(int holds, const char *what) {
+    if (!holds) {
+        fprintf(stderr, "different: %s\n", what);
+        exit(1);
+    }
+}
+
+static void labels(void) {
+    expect(crout_label(6, 5, 2) == 15 && crout_place(6, 15) == 1024 * 5 + 2, "P1, (5, 2)");
+    expect(crout_label(6, 1, 6) == 11 && crout_place(6, 11) == 1024 * 1 + 6, "P1, (1, 6)");
+    expect(crout_label(6, 6, 6) == 36 && crout_place(6, 36) == 1024 * 6 + 6, "P1, (6, 6)");
+    expect(crout_label(0, 1, 1) == 0 && crout_label(601, 1, 1) == 0, "labels of a bad order");
+    expect(crout_label(6, 0, 1) == 0 && crout_label(6, 1, 7) == 0, "labels of a bad place");
+    expect(crout_place(6, 0) == 0 && crout_place(6, 37) == 0 && crout_place(601, 1) == 0, "places of a bad label or order");
+}
+
+#if GROUPS >= 2
+
+static uint64_t refusal(uint32_t number, uint32_t detail) {
+    return (uint64_t)number << 32 | detail;
+}
+
+static int same_numbers(const uint64_t out[3], uint64_t first, uint64_t second, uint64_t third) {
+    return out[0] == first && out[1] == second && out[2] == third;
+}
+
+/* The program of order 1, as document 01 lists it. */
+static const uint32_t listing[32] = {1, 1, 1, 1, 1, 1, 1, 2, 9, 0, 0, 3, 2, 1, 0, 4,
+                                     7, 1, 0, 5, 8, 0, 0, 6, 3, 1, 0, 7, 8, 0, 0, 0};
+
+static const uint32_t p8[12] = {1, 2, 4, 8, 10, 12, 15, 21, 28, 30, 33, 36};
+
+static uint32_t work[36];
+static uint32_t words[400];
+
+/* What the compiler returns, with the slices full of sevens before it. */
+static uint64_t compiled(uint32_t n, const uint32_t *plan, size_t plan_len, size_t work_len, size_t words_len, uint64_t out[3]) {
+    size_t k;
+    for (k = 0; k < COUNT(work); k++)
+        work[k] = 7;
+    for (k = 0; k < COUNT(words); k++)
+        words[k] = 7;
+    out[0] = out[1] = out[2] = 7;
+    return crout_compile(n, plan, plan_len, work, work_len, words, words_len, out);
+}
+
+static void accepted(uint32_t n, const uint32_t *plan, size_t plan_len, uint64_t slots, uint64_t products, uint64_t records,
+                     const char *what) {
+    uint64_t out[3];
+    expect(compiled(n, plan, plan_len, n * n, 4 * records, out) == 0, what);
+    expect(same_numbers(out, slots, products, records), what);
+    expect(words[0] == n && words[1] == plan_len && words[2] == slots && words[3] == 1, what);
+    expect(words[4 * records - 1] == 0 && words[4 * records] == 7, what);
+    expect(compiled(n, plan, plan_len, n * n, 4 * records - 1, out) == refusal(6, (uint32_t)records), what);
+    expect(same_numbers(out, 0, 0, 0) && words[0] == 7, what);
+}
+
+static void refused(uint32_t n, const uint32_t *plan, size_t plan_len, uint32_t number, uint32_t detail, const char *what) {
+    uint64_t out[3];
+    expect(compiled(n, plan, plan_len, COUNT(work), COUNT(words), out) == refusal(number, detail), what);
+    expect(same_numbers(out, 0, 0, 0) && words[0] == 7, what);
+    expect(work[0] == (number == 5 ? 0 : 7), what);
+}
+
+static void compile(void) {
+    const uint32_t p2[] = {1, 2, 3}, p3[] = {1, 2, 4}, p4[] = {2, 3}, p6[] = {1, 1}, five[] = {5};
+    const uint32_t slots_of_p3[] = {1, 2, 0, 3};
+    uint64_t out[3];
+    accepted(2, p2, 3, 4, 3, 23, "P2");
+    accepted(2, p3, 3, 3, 1, 18, "P3");
+    expect(memcmp(work, slots_of_p3, sizeof slots_of_p3) == 0 && work[4] == 7, "the slots of P3");
+    refused(2, p4, 2, 5, 1, "P4");
+    refused(3, p4, 0, 5, 1, "P5");
+    refused(2, p6, 2, 4, 2, "P6, labels 1 1");
+    refused(2, five, 1, 3, 1, "P6, label 5");
+    refused(0, p2, 1, 1, 0, "P7, order 0");
+    refused(601, p2, 1, 1, 0, "P7, order 601");
+    accepted(6, p8, COUNT(p8), 18, 19, 91, "P8");
+    expect(compiled(6, p8, COUNT(p8), 35, COUNT(words), out) == refusal(2, 36), "a work slice of 35");
+    expect(compiled(1, p2, 1, 1, COUNT(words), out) == 0 && same_numbers(out, 1, 0, 8), "order 1");
+    expect(memcmp(words, listing, sizeof listing) == 0 && words[32] == 7, "the program of order 1");
+}
+
+#endif
+#if GROUPS >= 3
+
+/* The file of order 1: each word low byte first. */
+static const uint8_t listing_file[128] = {
+    1, 0, 0, 0, 1, 0, 0, 0, 1, 0, 0, 0, 1, 0, 0, 0, 1, 0, 0, 0, 1, 0, 0, 0, 1, 0, 0, 0, 2, 0, 0, 0,
+    9, 0, 0, 0, 0, 0, 0, 0, 0, 0, 0, 0, 3, 0, 0, 0, 2, 0, 0, 0, 1, 0, 0, 0, 0, 0, 0, 0, 4, 0, 0, 0,
+    7, 0, 0, 0, 1, 0, 0, 0, 0, 0, 0, 0, 5, 0, 0, 0, 8, 0, 0, 0, 0, 0, 0, 0, 0, 0, 0, 0, 6, 0, 0, 0,
+    3, 0, 0, 0, 1, 0, 0, 0, 0, 0, 0, 0, 7, 0, 0, 0, 8, 0, 0, 0, 0, 0, 0, 0, 0, 0, 0, 0, 0, 0, 0, 0};
+
+static void written(void) {
+    const uint32_t word[] = {0x04030201};
+    const uint8_t low_first[] = {1, 2, 3, 4};
+    uint8_t bytes[129];
+    uint64_t out[3] = {7, 7, 7};
+    memset(bytes, 7, sizeof bytes);
+    expect(crout_write(listing, 32, bytes, 127, out) == refusal(19, 128) && same_numbers(out, 0, 0, 0), "a slice of 127 bytes");
+    expect(bytes[0] == 7 && bytes[126] == 7, "a refused writer's bytes");
+    expect(crout_write(listing, 32, bytes, 129, out) == 0 && same_numbers(out, 128, 0, 0), "the writer's answer");
+    expect(memcmp(bytes, listing_file, sizeof listing_file) == 0 && bytes[128] == 7, "the file of order 1");
+    expect(crout_write(word, 1, bytes, 4, out) == 0 && memcmp(bytes, low_first, 4) == 0, "low byte first");
+}
+
+static void read_back(void) {
+    uint32_t back[33];
+    uint64_t out[3] = {7, 7, 7};
+    memset(back, 0, sizeof back);
+    back[31] = back[32] = 7;
+    expect(crout_read(listing_file, 127, back, 33, out) == refusal(18, 0) && same_numbers(out, 0, 0, 0), "a file of 127 bytes");
+    expect(crout_read(listing_file, 128, back, 31, out) == refusal(19, 32) && same_numbers(out, 0, 0, 0), "a slice of 31 words");
+    expect(back[0] == 0 && back[31] == 7, "a refused reader's words");
+    expect(crout_read(listing_file, 128, back, 33, out) == 0 && same_numbers(out, 32, 0, 0), "the reader's answer");
+    expect(memcmp(back, listing, sizeof listing) == 0 && back[32] == 7, "the words read back");
+}
+
+/* What the check returns for the file of order 1 with one byte changed. */
+static uint64_t checked_with(size_t at, uint8_t byte) {
+    uint8_t file[128];
+    memcpy(file, listing_file, sizeof file);
+    file[at] = byte;
+    return crout_check(file, sizeof file);
+}
+
+static void checked(void) {
+    expect(crout_check(listing_file, 128) == 0, "the check of the file of order 1");
+    expect(crout_check(listing_file, 126) == refusal(18, 0), "18");
+    expect(crout_check(listing_file, 0) == refusal(7, 0) && crout_check(listing_file, 124) == refusal(7, 0), "7");
+    expect(checked_with(0, 0) == refusal(8, 0), "8");
+    expect(checked_with(28, 1) == refusal(9, 1), "9");
+    expect(checked_with(32, 10) == refusal(10, 2), "10");
+    expect(checked_with(48, 7) == refusal(11, 3), "11");
+    expect(checked_with(68, 2) == refusal(12, 4), "12");
+    expect(checked_with(12, 0) == refusal(13, 0), "13");
+}
+
+#endif
+#if GROUPS >= 4
+
+static double c[18], y[6], x[6];
+
+static void dirty(void) {
+    size_t k;
+    for (k = 0; k < COUNT(c); k++)
+        c[k] = 7;
+    for (k = 0; k < COUNT(x); k++)
+        y[k] = x[k] = 7;
+}
+
+/* Runs the plan of all labels up to n * n, by two calls and by one: both return the same. c_len is the number of slots. */
+static uint64_t ran(uint32_t n, const double *a, const double *b, size_t c_len, uint64_t out[3]) {
+    const uint32_t plan[] = {1, 2, 3, 4};
+    uint64_t compiler[3], solved_out[3], returned, solved;
+    double solved_x[6];
+    dirty();
+    solved = crout_solve(n, plan, n * n, a, n * n, b, n, work, COUNT(work), words, COUNT(words), c, c_len, y, n, x, n, solved_out);
+    memcpy(solved_x, x, sizeof x);
+    dirty();
+    expect(crout_compile(n, plan, n * n, work, COUNT(work), words, COUNT(words), compiler) == 0, "a full table");
+    returned = crout_run(words, 4 * (size_t)compiler[2], a, n * n, b, n, c, c_len, y, n, x, n, out);
+    expect(solved == returned && memcmp(solved_out, out, sizeof solved_out) == 0, "solve answers as run does");
+    expect(memcmp(solved_x, x, sizeof x) == 0, "solve leaves the same X");
+    return returned;
+}
+
+static int same_values(const double *values, const double *expected, size_t len) {
+    return memcmp(values, expected, len * sizeof *values) == 0;
+}
+
+static void run(void) {
+    const double zeros[4] = {0, 0, 0, 0}, minus_zero = -0.0, minus_one = -1;
+    const double v1_a[] = {2, 4, 1, 4}, v1_b[] = {4, 12}, v1_c[] = {2, 4, 0.5, 2}, v1_y[] = {2, 2}, v1_x[] = {1, 2};
+    const double v2_a[] = {1, 1, 1, 1};
+    const double v3_a = 0x1p-1000, v3_b = 0x1p1000;
+    double infinite[] = {4, 12};
+    uint64_t out[3];
+    infinite[1] = v3_b * v3_b;
+    expect(ran(2, v1_a, v1_b, 4, out) == 0 && same_numbers(out, 3, 3, 0), "V1");
+    expect(same_values(c, v1_c, 4) && same_values(y, v1_y, 2) && same_values(x, v1_x, 2), "the values of V1");
+    expect(c[4] == 7 && y[2] == 7 && x[2] == 7, "values past the slices of V1");
+    expect(ran(2, v2_a, v1_b, 4, out) == refusal(17, 13) && same_numbers(out, 1, 4, 0), "V2");
+    expect(same_values(c, zeros, 4) && same_values(y, zeros, 2) && same_values(x, zeros, 2), "the values of V2");
+    expect(ran(1, &v3_a, &v3_b, 1, out) == refusal(16, 4) && same_numbers(out, 2, 1, 0), "V3");
+    expect(ran(1, &minus_one, zeros, 1, out) == 0 && same_values(x, zeros, 1), "V4");
+    expect(ran(1, &minus_one, &minus_zero, 1, out) == 0 && same_values(x, zeros, 1), "V4 with -0");
+    expect(ran(2, v1_a, v1_b, 3, out) == refusal(14, 0) && same_numbers(out, 0, 0, 0) && c[0] == 7, "14");
+    expect(ran(2, v1_a, infinite, 4, out) == refusal(15, 2) && same_numbers(out, 0, 0, 0) && c[0] == 7, "15");
+    expect(crout_run(listing, 31, v1_a, 1, v1_b, 1, c, 1, y, 1, x, 1, out) == refusal(7, 0) && c[0] == 7, "7 of a run");
+}
+
+static void document_002(void) {
+    const double a[12] = {7, 2, -3, -3, -1, 8, -1, 1, 5, -2, 4, 6}, b[6] = {-11, 38, 0, 13, 11, -22};
+    const double published[6] = {-1, 5, 0, 2, 4, -3};
+    uint64_t out[3];
+    size_t k;
+    dirty();
+    expect(crout_solve(6, p8, 12, a, 12, b, 6, work, 36, words, COUNT(words), c, 18, y, 6, x, 6, out) == 0, "document 002");
+    expect(same_numbers(out, 19, 11, 0), "the products and quotients of document 002");
+    for (k = 0; k < 6; k++)
+        expect(x[k] - published[k] < 1e-14 && published[k] - x[k] < 1e-14, "the solution of document 002");
+}
+
+#endif
+
+int main(void) {
+    labels();
+#if GROUPS >= 2
+    compile();
+#endif
+#if GROUPS >= 3
+    written();
+    read_back();
+    checked();
+#endif
+#if GROUPS >= 4
+    run();
+    document_002();
+#endif
+    return 0;
+}

@@ -1,0 +1,77 @@
+//! The exported functions as safe Rust, one file for each group of them. A group that the library lacks is left out by its
+//! line here and the file of that name in `tests/`.
+
+use crate::reading::{Refusal, plan::Written, run::Outcome};
+
+pub mod compile;
+pub mod file;
+pub mod labels;
+pub mod run;
+
+/// What a call that can refuse answers: the number that it returns, and the three that it puts into `out`.
+#[derive(Clone, Copy, Debug, PartialEq, Eq)]
+pub struct Answer {
+    pub returned: u64,
+    pub out: [u64; 3],
+}
+
+impl Answer {
+    pub fn fine(out: [u64; 3]) -> Self {
+        Self { returned: 0, out }
+    }
+
+    pub fn refused(number: u32, detail: u64) -> Self {
+        Self::stopped(number, detail, [0; 3])
+    }
+
+    /// A refusal that names more than its detail.
+    pub fn stopped(number: u32, detail: u64, out: [u64; 3]) -> Self {
+        assert!(detail >> 32 == 0, "a detail of more than 32 bits can't be returned");
+        Self { returned: u64::from(number) << 32 | detail, out }
+    }
+
+    /// The refusal's number, 0 for none.
+    pub fn number(&self) -> u32 {
+        (self.returned >> 32) as u32
+    }
+
+    pub fn detail(&self) -> u64 {
+        self.returned & 0xffff_ffff
+    }
+
+    /// Makes a call that is lent a dirty `out`.
+    fn of(call: impl FnOnce(*mut u64) -> u64) -> Self {
+        let mut out = [0xdead_beef_dead_beef; 3];
+        let returned = call(out.as_mut_ptr());
+        Self { returned, out }
+    }
+}
+
+impl From<Result<Written, Refusal>> for Answer {
+    fn from(read: Result<Written, Refusal>) -> Self {
+        match read {
+            Ok(Written { slots, products, records }) => Self::fine([slots, products, records]),
+            Err((number, detail)) => Self::refused(number, detail),
+        }
+    }
+}
+
+/// The entries that a file call has written.
+impl From<Result<u64, Refusal>> for Answer {
+    fn from(read: Result<u64, Refusal>) -> Self {
+        match read {
+            Ok(entries) => Self::fine([entries, 0, 0]),
+            Err((number, detail)) => Self::refused(number, detail),
+        }
+    }
+}
+
+impl From<Outcome> for Answer {
+    fn from(read: Outcome) -> Self {
+        match read {
+            Outcome::Solved { products, quotients } => Self::fine([products, quotients, 0]),
+            Outcome::Stopped { number, record, table, target } => Self::stopped(number, record, [table, target, 0]),
+            Outcome::Refused { number, detail } => Self::refused(number, detail),
+        }
+    }
+}

@@ -1,0 +1,275 @@
+//! `crout_compile` against the reading's compiler: the answer, the work numbers and the words, on slices that are dirty before
+//! the call and longer than they need be, just long enough, or too short.
+
+use crout_tests::calls::{Answer, compile::compile};
+use crout_tests::lent::Lent;
+use crout_tests::networks::{self, SHAPES};
+use crout_tests::random::Random;
+use crout_tests::reading;
+
+/// Both compilers on slices of these lengths that hold the same junk: the answers and all of the slices are the same after it.
+fn compare(n: u32, plan: &[u32], work_len: usize, words_len: usize, random: &mut Random) -> Answer {
+    let before = (Lent::<u32>::new(work_len, random), Lent::<u32>::new(words_len, random));
+    let (mut work, mut words) = before.clone();
+    let (mut expected_work, mut expected_words) = before.clone();
+    let plan_before = plan.to_vec();
+    let answer = compile(n, plan, work.part(), words.part());
+    let expected = reading::plan::compile(n, plan, expected_work.part(), expected_words.part()).into();
+    assert_eq!(answer, expected, "order {n}, work {work_len}, words {words_len}, plan {plan:?}");
+    assert!(work.same(&expected_work), "work numbers: order {n}, plan {plan:?}");
+    assert!(words.same(&expected_words), "words: order {n}, plan {plan:?}");
+    assert_eq!(plan, plan_before, "the plan has changed");
+    assert!(!(1..=4).contains(&answer.number()) || work.same(&before.0), "1 to 4 leave the work numbers");
+    assert!(answer.number() == 0 || words.same(&before.1), "a refusal leaves the words");
+    answer
+}
+
+/// All the lengths that matter for a plan; the answer of a call with slices that are longer than they need be.
+fn compare_lengths(n: u32, plan: &[u32], random: &mut Random) -> Answer {
+    let square = (n * n) as usize;
+    assert_eq!(compare(n, plan, square - 1, random.below(9), random), Answer::refused(2, square as u64));
+    let without_words = compare(n, plan, square + random.below(9), 0, random);
+    if without_words.number() != 6 {
+        return without_words;
+    }
+    let needed = 4 * without_words.detail() as usize;
+    for short in [needed - 1, needed - 4, random.below(needed)] {
+        assert_eq!(compare(n, plan, square, short, random), without_words);
+    }
+    let exact = compare(n, plan, square, needed, random);
+    let longer = compare(n, plan, square + 1 + random.below(99), needed + 1 + random.below(99), random);
+    assert_eq!(exact.returned, 0);
+    assert_eq!(exact, longer);
+    longer
+}
+
+/// What the success carries for a full table, by the sums of 1, 2, .. and of their squares.
+fn full_table(n: u64) -> [u64; 3] {
+    let products = n * (n - 1) * (2 * n - 1) / 6 + n * (n - 1);
+    [n * n, products, 1 + 2 * (n * n + 2 * n) + products + n + n * (n - 1) / 2]
+}
+
+#[test]
+fn the_known_plans() {
+    let random = &mut Random(1);
+    let p8 = [1, 2, 4, 8, 10, 12, 15, 21, 28, 30, 33, 36];
+    let fine = Answer::fine;
+    let refused = Answer::refused;
+    assert_eq!(compare_lengths(2, &[1, 2, 3], random), fine([4, 3, 23]), "P2");
+    assert_eq!(compare_lengths(2, &[1, 2, 4], random), fine([3, 1, 18]), "P3");
+    assert_eq!(compare_lengths(2, &[2, 3], random), refused(5, 1), "P4");
+    assert_eq!(compare_lengths(3, &[], random), refused(5, 1), "P5");
+    assert_eq!(compare_lengths(2, &[1, 1], random), refused(4, 2), "P6");
+    assert_eq!(compare_lengths(2, &[5], random), refused(3, 1), "P6");
+    assert_eq!(compare(0, &[], 9, 99, random), refused(1, 0), "P7");
+    assert_eq!(compare(601, &[1], 601 * 601, 99, random), refused(1, 0), "P7");
+    assert_eq!(compare_lengths(6, &p8, random), fine([18, 19, 91]), "P8");
+}
+
+#[test]
+fn the_program_of_order_1() {
+    let (mut work, mut words) = ([7; 2], [7; 33]);
+    assert_eq!(compile(1, &[1], &mut work, &mut words), Answer::fine([1, 0, 8]));
+    assert_eq!(work, [1, 7]);
+    let listing =
+        [[1, 1, 1, 1], [1, 1, 1, 2], [9, 0, 0, 3], [2, 1, 0, 4], [7, 1, 0, 5], [8, 0, 0, 6], [3, 1, 0, 7], [8, 0, 0, 0]];
+    assert_eq!(words[..32], listing.concat());
+    assert_eq!(words[32], 7);
+}
+
+/// How many plans of an order are accepted, and how many miss each pivot first.
+fn every_plan(n: u32, random: &mut Random) -> Vec<u32> {
+    let mut counts = vec![0; n as usize + 1];
+    for set in 0..1u32 << (n * n) {
+        let plan: Vec<u32> = (1..=n * n).filter(|k| set >> (k - 1) & 1 == 1).collect();
+        let answer = compare(n, &plan, (n * n) as usize, 4 * full_table(n.into())[2] as usize, random);
+        counts[answer.detail() as usize] += 1;
+    }
+    counts
+}
+
+#[test]
+fn every_plan_of_the_orders_up_to_4() {
+    let random = &mut Random(2);
+    assert_eq!(every_plan(1, random), [1, 1]);
+    assert_eq!(every_plan(2, random), [5, 8, 3]);
+    every_plan(3, random);
+    every_plan(4, random);
+}
+
+/// Random plans of the orders up to 40: some are accepted, some miss a pivot.
+fn random_plans(seed: u64) {
+    let random = &mut Random(seed);
+    let (mut accepted, mut missing) = (0, 0);
+    for (n, plan) in networks::plans(seed, 2500) {
+        match compare_lengths(n, &plan, random).number() {
+            0 => accepted += 1,
+            5 => missing += 1,
+            other => panic!("refused by {other}: order {n}, plan {plan:?}"),
+        }
+    }
+    assert!(accepted > 1500 && missing > 200, "{accepted} accepted, {missing} miss a pivot");
+}
+
+#[test]
+fn random_plans_up_to_order_40() {
+    random_plans(3);
+}
+
+#[test]
+fn more_random_plans_up_to_order_40() {
+    random_plans(4);
+}
+
+#[test]
+fn networks_of_every_shape() {
+    let random = &mut Random(5);
+    for _ in 0..100 {
+        for shape in SHAPES {
+            let n = 1 + random.below(40) as u32;
+            compare_lengths(n, &shape.plan(n, random), random);
+        }
+    }
+}
+
+#[test]
+fn full_tables() {
+    let random = &mut Random(6);
+    for n in (1..=40).chain([128]) {
+        assert_eq!(compare_lengths(n, &networks::full(n), random), Answer::fine(full_table(n.into())), "order {n}");
+    }
+    // its program would need more than a gigabyte
+    let [_, _, records] = full_table(600);
+    assert_eq!(compare(600, &networks::full(600), 360_000, 99, random), Answer::refused(6, records));
+}
+
+#[test]
+fn plans_of_order_128() {
+    let random = &mut Random(7);
+    for shape in SHAPES {
+        compare_lengths(128, &shape.plan(128, random), random);
+    }
+    for density in [0.0, 0.01, 0.03, 0.1, 0.9] {
+        compare_lengths(128, &networks::scattered(128, 1.0, density, random), random);
+        compare_lengths(128, &networks::scattered(128, 0.97, density, random), random);
+    }
+}
+
+#[test]
+fn plans_of_order_600() {
+    let random = &mut Random(8);
+    let plans = [
+        networks::three_diagonal(600),
+        networks::grid(600, 6),
+        networks::tree(600, random),
+        networks::banded(600, 4, 0.5, random),
+        networks::scattered(600, 1.0, 0.001, random),
+    ];
+    for plan in plans {
+        let answer = compare(600, &plan, 360_000, 0, random);
+        assert_eq!(answer.number(), 6);
+        let needed = 4 * answer.detail() as usize;
+        assert_eq!(compare(600, &plan, 360_005, needed + 5, random).number(), 0);
+        assert_eq!(compare(600, &plan, 360_000, needed - 1, random), answer);
+    }
+    let mut without = networks::three_diagonal(600);
+    without.pop();
+    // the last pivot is fill, the first can't be
+    assert_eq!(compare(600, &without, 360_000, 0, random).number(), 6);
+    assert_eq!(compare(600, &without[1..], 360_000, 0, random), Answer::refused(5, 1));
+}
+
+#[test]
+fn orders_out_of_range() {
+    let random = &mut Random(9);
+    // the square of 65,536 doesn't fit 32 bits; order comes before work slice, labels and words
+    for n in [0, 601, 602, 1000, 65_535, 65_536, 65_537, 1 << 31, u32::MAX] {
+        for plan in [&[][..], &[1], &[0], &[2, 1]] {
+            for work_len in [0, 1, 500] {
+                assert_eq!(compare(n, plan, work_len, random.below(200), random), Answer::refused(1, 0));
+            }
+        }
+    }
+}
+
+#[test]
+fn work_slices_too_short() {
+    let random = &mut Random(10);
+    for n in (1..=20).chain([599, 600]) {
+        let square = (n * n) as usize;
+        for work_len in [0, 1, square / 2, square - 1] {
+            // also where a label is bad or a pivot is missing
+            for plan in [&[][..], &[1], &[0], &[2, 1]] {
+                if work_len < square {
+                    assert_eq!(compare(n, plan, work_len, random.below(200), random), Answer::refused(2, square as u64));
+                }
+            }
+        }
+    }
+}
+
+/// A label that is bad at this position of a rising plan, with its refusal.
+fn bad_label(n: u32, before: u32, random: &mut Random) -> (u32, u32) {
+    match random.below(6) {
+        0 => (0, 3),
+        1 => (n * n + 1, 3),
+        2 => (u32::MAX - random.below(9) as u32, 3),
+        3 => (n * n + 1 + random.below(1000) as u32, 3),
+        _ if before == 0 => (0, 3),
+        4 => (before, 4),
+        _ => (1 + random.below(before as usize) as u32, 4),
+    }
+}
+
+#[test]
+fn bad_labels() {
+    let random = &mut Random(11);
+    let mut hits = [0; 5];
+    for _ in 0..5000 {
+        let n = 1 + random.below(20) as u32;
+        let mut plan = networks::any(n, random);
+        let at = random.below(plan.len() + 1);
+        let before = if at == 0 { 0 } else { plan[at - 1] };
+        let (label, number) = bad_label(n, before, random);
+        if at < plan.len() && random.chance(0.5) {
+            plan[at] = label;
+        } else {
+            plan.insert(at, label);
+        }
+        // what comes after the first bad label doesn't matter
+        plan.extend((0..random.below(4)).map(|_| random.next() as u32));
+        let words_len = random.below(300);
+        let answer = compare(n, &plan, (n * n) as usize, words_len, random);
+        assert_eq!(answer, Answer::refused(number, at as u64 + 1));
+        hits[number as usize] += 1;
+    }
+    assert!(hits[3] > 1000 && hits[4] > 1000, "{hits:?}");
+}
+
+#[test]
+fn a_plan_longer_than_the_table() {
+    let random = &mut Random(12);
+    for n in 1..=12 {
+        let mut plan = networks::full(n);
+        plan.push(n * n);
+        assert_eq!(compare(n, &plan, 400, 4000, random), Answer::refused(4, u64::from(n * n) + 1));
+        plan[(n * n) as usize] += 1;
+        assert_eq!(compare(n, &plan, 400, 4000, random), Answer::refused(3, u64::from(n * n) + 1));
+    }
+}
+
+#[test]
+fn missing_pivots() {
+    let random = &mut Random(13);
+    let mut first = [0; 21];
+    for _ in 0..4000 {
+        let n = 1 + random.below(20) as u32;
+        // no more fill than lets the later pivots be missing too
+        let plan = networks::scattered(n, 1.0 - 1.0 / f64::from(n), 0.5 / f64::from(n), random);
+        let answer = compare(n, &plan, (n * n) as usize + random.below(5), random.below(3000), random);
+        if answer.number() == 5 {
+            first[answer.detail() as usize] += 1;
+        }
+    }
+    assert!(first[1..].iter().all(|&hits| hits > 3), "{first:?}");
+}
