@@ -41,6 +41,13 @@ next-true k n records e =
     let both = and-eq-true-iff (ltb k n) (ltb n records) .0 e in
     (ltb-true k n (both .0), ltb-true n records (both .1))
 
+-- record k names n as next, and n may stand there
+pub record Facing (h : Head) (W : List ℕ) (g : Progress) (k n : ℕ) : Type 0 where
+  pub here : Going h W g k
+  pub is : n ≡ nextOf W k
+  pub up : k < n
+  pub low : n < length W / 4
+
 -- one turn: record k names n as next, and r is the refusal of record n, or 0
 pub record Turn (h : Head) (W : List ℕ) (g : Progress) (k n r : ℕ) : Type 0 where
   pub here : Going h W g k

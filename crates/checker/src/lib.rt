@@ -122,7 +122,7 @@ fn follow_words(words: &[u32], h: Head) -> Checked
     let mut g = begun();
     let mut k = 0;
     loop {
-        let next = wide(words[4 * k + 3]);
+        let mut next = wide(words[4 * k + 3]);
         if next == 0 {
             return at_end(h, g);
         }
@@ -132,17 +132,27 @@ fn follow_words(words: &[u32], h: Head) -> Checked
                 detail: k as u64,
             };
         }
-        k = next;
-        let at = 4 * k;
-        let kind = words[at];
-        let number = judge(h, g, kind, words[at + 1], words[at + 2]);
-        if number != 0 {
-            return Checked::Refused {
-                number,
-                detail: k as u64,
-            };
+        loop {
+            let at = 4 * next;
+            let following = next + 1;
+            let kind = words[at];
+            let number = judge(h, g, kind, words[at + 1], words[at + 2]);
+            if number != 0 {
+                return Checked::Refused {
+                    number,
+                    detail: next as u64,
+                };
+            }
+            g = onward(kind, g);
+            k = next;
+            if records <= following {
+                break;
+            }
+            if wide(words[at + 3]) != following {
+                break;
+            }
+            next = following;
         }
-        g = onward(kind, g);
     }
 }
 
@@ -155,7 +165,7 @@ fn follow_bytes(bytes: &[u8], h: Head) -> Checked
     let mut g = begun();
     let mut k = 0;
     loop {
-        let next = wide(word_at(bytes, 4 * k + 3));
+        let mut next = wide(word_at(bytes, 4 * k + 3));
         if next == 0 {
             return at_end(h, g);
         }
@@ -165,17 +175,27 @@ fn follow_bytes(bytes: &[u8], h: Head) -> Checked
                 detail: k as u64,
             };
         }
-        k = next;
-        let at = 4 * k;
-        let kind = word_at(bytes, at);
-        let number = judge(h, g, kind, word_at(bytes, at + 1), word_at(bytes, at + 2));
-        if number != 0 {
-            return Checked::Refused {
-                number,
-                detail: k as u64,
-            };
+        loop {
+            let at = 4 * next;
+            let following = next + 1;
+            let kind = word_at(bytes, at);
+            let number = judge(h, g, kind, word_at(bytes, at + 1), word_at(bytes, at + 2));
+            if number != 0 {
+                return Checked::Refused {
+                    number,
+                    detail: next as u64,
+                };
+            }
+            g = onward(kind, g);
+            k = next;
+            if records <= following {
+                break;
+            }
+            if wide(word_at(bytes, at + 3)) != following {
+                break;
+            }
+            next = following;
         }
-        g = onward(kind, g);
     }
 }
 
