@@ -1,4 +1,5 @@
 -- The laws that the proofs of `checker` share.
 pub mod Judging
+pub mod Sources
 pub mod Turns
 pub mod Whole

@@ -114,7 +114,3 @@ module _ (h : Head) (W : List ℕ) where
 
     pub stops : (r ≡ 0 → ⊥) → refusal r n ≡ followed h W
     stops some = sym (turned ∙ unless-some r n _ some)
-
--- equal numbers are refused equally
-pub refusal-same : (h : Head) (g : Progress) {kind p q kind′ p′ q′ : ℕ} → kind ≡ kind′ → p ≡ p′ → q ≡ q′ → refusalOf h g kind p q ≡ refusalOf h g kind′ p′ q′
-refusal-same h g ek ep eq = cc

@@ -8,7 +8,6 @@ use lib.ListN.{length}
 use borrow.Author.Tests.{ltb-true, leb-true, eqb-true, eq-eqb, ne-eqb}
 use Rattle.model.specs.Check.{word, Verdict, refusal, check}
 use Rattle.model.specs.File.{wordsOf, checkFile}
-use Rattle.model.proofs.Bytes.{words-length}
 use Rattle.checker.specs.declared.Head.{Head}
 use Rattle.checker.specs.Steps.{countFits, headFits, followed}
 
@@ -27,9 +26,6 @@ whole true true v = v
 -- record 0
 abbrev pub headOf : List ℕ → Head
 headOf W = record { order = word W 0; coefficients = word W 1; slots = word W 2 }
-
-pub head-is : (W : List ℕ) {N n s : ℕ} → N ≡ word W 0 → n ≡ word W 1 → s ≡ word W 2 → _≡_ {A = Head} (record { order = N; coefficients = n; slots = s }) (headOf W)
-head-is W eN en es = λ i. record { order = eN i; coefficients = en i; slots = es i }
 
 check-is : (W : List ℕ) → whole (countFits (length W)) (headFits (word W 0) (word W 1) (word W 2)) (followed (headOf W) W) ≡ check W
 unfolding check
@@ -61,6 +57,3 @@ module _ (bs : List ℕ) where
   pub file-checked : length bs % 4 ≡ 0 → check (wordsOf bs) ≡ checkFile bs
   unfolding checkFile
   file-checked e = rw (checkFile, eq-eqb (length bs % 4) 0 e)
-
-  pub file-count : countFits (length bs / 4) ≡ countFits (length (wordsOf bs))
-  file-count = ap countFits (sym (words-length bs))

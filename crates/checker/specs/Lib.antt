@@ -1,3 +1,4 @@
 -- What the contracts of `checker` cite.
 pub mod Checked
+pub mod Source
 pub mod Steps

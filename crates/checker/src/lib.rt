@@ -13,6 +13,7 @@ ghost use Rattle.model.specs.Check.{begun as Check·begun};
 ghost use Rattle.model.specs.Check.{onward as Check·onward};
 ghost use Rattle.model.specs.File.{wordsOf, checkFile};
 ghost use Rattle.checker.specs.Checked.{verdictOf};
+ghost use Rattle.checker.specs.Source.{content, recordOf};
 ghost use Rattle.checker.specs.Steps.{openOf, openNumber, progressOf, total, firstOf, refusalOf, countFits, headFits, followed};
 
 // What a check answers: nothing wrong, or a refusal's number and its detail.
@@ -26,6 +27,14 @@ struct Head {
     order: u32,
     coefficients: u32,
     slots: u32,
+}
+
+// A record's four words.
+struct Record {
+    kind: u32,
+    p: u32,
+    q: u32,
+    next: u32,
 }
 
 // What is open.
@@ -48,24 +57,7 @@ struct Progress {
 pub fn check(words: &[u32]) -> Checked
     ensures { λ r. ⌜ verdictOf r ≡ Check·check (now (words .entry)) ⌝ }
 {
-    if !count_fits(words.len()) {
-        return Checked::Refused {
-            number: 7,
-            detail: 0,
-        };
-    }
-    let h = Head {
-        order: words[0],
-        coefficients: words[1],
-        slots: words[2],
-    };
-    if !head_fits(h) {
-        return Checked::Refused {
-            number: 8,
-            detail: 0,
-        };
-    }
-    follow_words(words, h)
+    check_either(words, b"", false, words.len())
 }
 
 // Check 18 of a file, then 7 to 13 of the program in it.
@@ -78,24 +70,28 @@ pub fn check_file(bytes: &[u8]) -> Checked
             detail: 0,
         };
     }
-    if !count_fits(bytes.len() / 4) {
+    check_either(&[], bytes, true, bytes.len() / 4)
+}
+
+// 7, then 8, then the chain, of a program that stands in the words or, if filed, in the bytes.
+fn check_either(words: &[u32], bytes: &[u8], filed: bool, count: usize) -> Checked
+    requires { ⌜ count ≡ length (content filed (now words) (now bytes)) ⌝ }
+    ensures { λ r. ⌜ verdictOf r ≡ Check·check (content filed (now (words .entry)) (now (bytes .entry))) ⌝ }
+{
+    if !count_fits(count) {
         return Checked::Refused {
             number: 7,
             detail: 0,
         };
     }
-    let h = Head {
-        order: word_at(bytes, 0),
-        coefficients: word_at(bytes, 1),
-        slots: word_at(bytes, 2),
-    };
+    let h = head_of(record_at(words, bytes, filed, 0));
     if !head_fits(h) {
         return Checked::Refused {
             number: 8,
             detail: 0,
         };
     }
-    follow_bytes(bytes, h)
+    follow(words, bytes, filed, h, count / 4)
 }
 
 // 7: there are words, in fours, and at most 100,000,000 records.
@@ -103,6 +99,17 @@ fn count_fits(count: usize) -> bool
     ensures { λ r. ⌜ r ≡ countFits count ⌝ }
 {
     0 < count && (count % 4 == 0 && count / 4 <= 100_000_000)
+}
+
+// Record 0 as N, n and s.
+fn head_of(r: Record) -> Head
+    ensures { λ h. ⌜ h ≡ record { order = r .kind; coefficients = r .p; slots = r .q } ⌝ }
+{
+    Head {
+        order: r.kind,
+        coefficients: r.p,
+        slots: r.q,
+    }
 }
 
 // 8: N in 1..600, n at most N², s in N..N².
@@ -113,16 +120,16 @@ fn head_fits(h: Head) -> bool
     within(n, 600) && (h.coefficients <= n * n && (n <= h.slots && h.slots <= n * n))
 }
 
-// The records along the chain of a program's words, and its end.
-fn follow_words(words: &[u32], h: Head) -> Checked
-    requires { ⌜ (0 < length (now words)) × ((length (now words) % 4 ≡ 0) × (length (now words) / 4 ≤ 100000000)) ⌝ }
-    ensures { λ r. ⌜ verdictOf r ≡ followed h (now (words .entry)) ⌝ }
+// The records along the chain, and its end. In the inner loop each is the one that follows the last, so that it is read without waiting
+// for the index that names it: `following` stands before that index is read.
+fn follow(words: &[u32], bytes: &[u8], filed: bool, h: Head, records: usize) -> Checked
+    requires { ⌜ (0 < records) × ((records ≤ 100000000) × (4 * records ≡ length (content filed (now words) (now bytes)))) ⌝ }
+    ensures { λ r. ⌜ verdictOf r ≡ followed h (content filed (now (words .entry)) (now (bytes .entry))) ⌝ }
 {
-    let records = words.len() / 4;
     let mut g = begun();
     let mut k = 0;
     loop {
-        let mut next = wide(words[4 * k + 3]);
+        let mut next = wide(record_at(words, bytes, filed, k).next);
         if next == 0 {
             return at_end(h, g);
         }
@@ -133,65 +140,21 @@ fn follow_words(words: &[u32], h: Head) -> Checked
             };
         }
         loop {
-            let at = 4 * next;
+            let r = record_at(words, bytes, filed, next);
             let following = next + 1;
-            let kind = words[at];
-            let number = judge(h, g, kind, words[at + 1], words[at + 2]);
+            let number = judge(h, g, r.kind, r.p, r.q);
             if number != 0 {
                 return Checked::Refused {
                     number,
                     detail: next as u64,
                 };
             }
-            g = onward(kind, g);
+            g = onward(r.kind, g);
             k = next;
             if records <= following {
                 break;
             }
-            if wide(words[at + 3]) != following {
-                break;
-            }
-            next = following;
-        }
-    }
-}
-
-// The same of a file's bytes.
-fn follow_bytes(bytes: &[u8], h: Head) -> Checked
-    requires { ⌜ (0 < length (now bytes)) × ((length (now bytes) % 16 ≡ 0) × (length (now bytes) / 16 ≤ 100000000)) ⌝ }
-    ensures { λ r. ⌜ verdictOf r ≡ followed h (wordsOf (now (bytes .entry))) ⌝ }
-{
-    let records = bytes.len() / 16;
-    let mut g = begun();
-    let mut k = 0;
-    loop {
-        let mut next = wide(word_at(bytes, 4 * k + 3));
-        if next == 0 {
-            return at_end(h, g);
-        }
-        if !may_follow(next, k, records) {
-            return Checked::Refused {
-                number: 9,
-                detail: k as u64,
-            };
-        }
-        loop {
-            let at = 4 * next;
-            let following = next + 1;
-            let kind = word_at(bytes, at);
-            let number = judge(h, g, kind, word_at(bytes, at + 1), word_at(bytes, at + 2));
-            if number != 0 {
-                return Checked::Refused {
-                    number,
-                    detail: next as u64,
-                };
-            }
-            g = onward(kind, g);
-            k = next;
-            if records <= following {
-                break;
-            }
-            if wide(word_at(bytes, at + 3)) != following {
+            if wide(r.next) != following {
                 break;
             }
             next = following;
@@ -204,6 +167,46 @@ fn may_follow(next: usize, k: usize, records: usize) -> bool
     ensures { λ r. ⌜ r ≡ (ltb k next && ltb next records) ⌝ }
 {
     k < next && next < records
+}
+
+// Record k. One reader serves words and bytes, so that the chain has one loop, into which the step is compiled.
+fn record_at(words: &[u32], bytes: &[u8], filed: bool, k: usize) -> Record
+    requires { ⌜ 4 * k + 3 < length (content filed (now words) (now bytes)) ⌝ }
+    ensures { λ r. ⌜ r ≡ recordOf (content filed (now (words .entry)) (now (bytes .entry))) k ⌝ }
+{
+    if filed {
+        record_of_file(bytes, k)
+    } else {
+        record_of_words(words, k)
+    }
+}
+
+// Record k of a program.
+fn record_of_words(words: &[u32], k: usize) -> Record
+    requires { ⌜ 4 * k + 3 < length (now words) ⌝ }
+    ensures { λ r. ⌜ r ≡ recordOf (now (words .entry)) k ⌝ }
+{
+    let at = 4 * k;
+    Record {
+        kind: words[at],
+        p: words[at + 1],
+        q: words[at + 2],
+        next: words[at + 3],
+    }
+}
+
+// Record k of the program in a file.
+fn record_of_file(bytes: &[u8], k: usize) -> Record
+    requires { ⌜ 4 * k + 3 < length (wordsOf (now bytes)) ⌝ }
+    ensures { λ r. ⌜ r ≡ recordOf (wordsOf (now (bytes .entry))) k ⌝ }
+{
+    let at = 4 * k;
+    Record {
+        kind: word_at(bytes, at),
+        p: word_at(bytes, at + 1),
+        q: word_at(bytes, at + 2),
+        next: word_at(bytes, at + 3),
+    }
 }
 
 // The i-th word of a file: four bytes, low byte first.

@@ -1,0 +1,166 @@
+-- `checker::follow` follows the chain of a program. The invariant: what is to be answered is the check from record k on; in the inner loop
+-- record k names next. The measures are the records above k and above next.
+use Prim.Native.Nat.{ℕ, _+_, _-_, _*_, _/_, _≤_, _<_}
+use mathlib.Core.Path.{_≡_, sym, ap, _∙_}
+use native.Mathlib.Omega.{arith}
+use borrow.Author.Needs.{needs}
+use borrow.Author.Tests.{not-true, not-false}
+use Rattle.model.specs.Check.{nextOf, kindOf, onward}
+use Rattle.checker.specs.Source.{content}
+use Rattle.checker.specs.Steps.{progressOf, refusalOf}
+use Rattle.checker.proofs.Turns.{Going, Facing, Turn, next-true, begins, ends, breaks, goes-on, stops}
+use Rattle.checker.proofs.follow.Statement.{statement}
+use Rattle.checker.proofs.follow.Tie as tie
+
+abbrev Inv-loop2 : tie.InvT-loop2
+Inv-loop2 words bytes filed h records g₀ k₀ next₀ g k next = (k₀ ≤ k) × (next < records) × Facing h (content filed words bytes) g k next
+
+abbrev μ-loop2 : tie.MeasureT-loop2
+μ-loop2 words bytes filed h records g₀ k₀ next₀ g k next = records - next
+
+abbrev Inv-loop : tie.InvT-loop
+Inv-loop words bytes filed h records g₀ k₀ g k = Going h (content filed words bytes) g k
+
+abbrev μ-loop : tie.MeasureT-loop
+μ-loop words bytes filed h records g₀ k₀ g k = records - k
+
+begun-requires : tie.Need-begun-requires Inv-loop2 μ-loop2 Inv-loop μ-loop
+begun-requires c κs = search needs
+
+loop-holds : tie.Need-loop-holds Inv-loop2 μ-loop2 Inv-loop μ-loop
+loop-holds c = begins _ _ (c .begun .result) (c .begun .ensures) (omega arith)
+
+record-at-requires : tie.Need-record-at-requires Inv-loop2 μ-loop2 Inv-loop μ-loop
+record-at-requires c κs = omega arith
+
+wide-requires : tie.Need-wide-requires Inv-loop2 μ-loop2 Inv-loop μ-loop
+wide-requires c κs = search needs
+
+at-end-requires : tie.Need-at-end-requires Inv-loop2 μ-loop2 Inv-loop μ-loop
+at-end-requires c κs = search needs
+
+-- the next index that record k names, as it was read
+next : (c : tie.After-wide Inv-loop2 μ-loop2 Inv-loop μ-loop) → let a = c .before .before .before .before .before .before .args in
+    c .wide .result ≡ nextOf (content (a .filed) (a .words .now) (a .bytes .now)) (c .before .before .loop .k)
+next c = c .wide .ensures ∙ ap (λ r. r .next) (c .before .record-at .ensures)
+
+returns : tie.Need-returns Inv-loop2 μ-loop2 Inv-loop μ-loop
+returns c =
+    let l = c .before .before .before .before .loop in
+    c .at-end .ensures ∙ ends _ _ (l .g) (l .k) (l .inv) (sym (next (c .before .before)) ∙ c .before .if1 .taken)
+
+may-follow-requires : tie.Need-may-follow-requires Inv-loop2 μ-loop2 Inv-loop μ-loop
+may-follow-requires c κs = search needs
+
+returns-2 : tie.Need-returns-2 Inv-loop2 μ-loop2 Inv-loop μ-loop
+returns-2 c =
+    let l = c .before .before .before .before .before .loop in
+    breaks _ _ (l .g) (l .k) (l .inv) _ _ (next (c .before .before .before)) (omega arith) (c .before .before .if1 .left)
+    (sym (c .before .may-follow .ensures) ∙ not-true _ (c .if2 .taken))
+
+loop2-holds : tie.Need-loop2-holds Inv-loop2 μ-loop2 Inv-loop μ-loop
+loop2-holds c =
+    let w = c .before .before .before in
+    let range = next-true _ _ _ (sym (c .before .may-follow .ensures) ∙ not-false _ (c .if2 .left)) in
+    (omega arith, range .1, record { here = w .before .before .loop .inv; is = next w; up = range .0; low = omega arith })
+
+record-at-requires-2 : tie.Need-record-at-requires-2 Inv-loop2 μ-loop2 Inv-loop μ-loop
+record-at-requires-2 c κs = omega arith
+
+add-following : tie.Need-add-following Inv-loop2 μ-loop2 Inv-loop μ-loop
+add-following c = omega arith
+
+judge-requires : tie.Need-judge-requires Inv-loop2 μ-loop2 Inv-loop μ-loop
+judge-requires c κs = omega arith
+
+-- the next record and its refusal
+turn : (j : tie.After-judge Inv-loop2 μ-loop2 Inv-loop μ-loop) → let a = j .before .before .before .before .before .before .before .before .before .before .before .before .args in let l = j .before .before .loop2 in
+    Turn (a .h) (content (a .filed) (a .words .now) (a .bytes .now)) (l .g) (l .k) (l .next) (j .judge .result)
+turn j =
+    let l = j .before .before .loop2 in
+    let f = l .inv .2 in
+    record {
+      here = f .here;
+      is = f .is;
+      up = f .up;
+      low = f .low;
+      refusal-is = j .judge .ensures ∙ ap (λ r. refusalOf (j .before .before .before .before .before .before .before .before .before .before .before .before .args .h) (l .g) (r .kind) (r .p) (r .q)) (j .before .record-at2 .ensures);
+    }
+
+returns-3 : tie.Need-returns-3 Inv-loop2 μ-loop2 Inv-loop μ-loop
+returns-3 c = stops _ _ _ _ _ _ (turn (c .before)) (c .if3 .taken)
+
+onward-requires : tie.Need-onward-requires Inv-loop2 μ-loop2 Inv-loop μ-loop
+onward-requires c κs = omega arith
+
+-- after that record
+arrived : (o : tie.After-onward Inv-loop2 μ-loop2 Inv-loop μ-loop) → let a = o .before .before .before .before .before .before .before .before .before .before .before .before .before .before .args in
+    Going (a .h) (content (a .filed) (a .words .now) (a .bytes .now)) (o .onward .result) (o .before .before .before .before .loop2 .next)
+arrived o =
+    let l = o .before .before .before .before .loop2 in
+    goes-on _ _ _ _ _ _ (turn (o .before .before)) (o .before .if3 .left) (o .onward .result)
+    (o .onward .ensures ∙ ap (λ r. onward (kindOf (r .kind)) (progressOf (l .g))) (o .before .before .before .record-at2 .ensures))
+
+nearer : (records k₀ k next : ℕ) → k₀ ≤ k → k < next → next < records → records - next < records - k₀
+nearer records k₀ k next from up low = omega arith
+
+loop-less : tie.Need-loop-less Inv-loop2 μ-loop2 Inv-loop μ-loop
+loop-less c = let l = c .before .before .before .before .before .loop2 in nearer _ _ _ _ (l .inv .0) (l .inv .2 .up) (l .inv .1)
+
+loop-again : tie.Need-loop-again Inv-loop2 μ-loop2 Inv-loop μ-loop
+loop-again c = arrived (c .before)
+
+wide-requires-2 : tie.Need-wide-requires-2 Inv-loop2 μ-loop2 Inv-loop μ-loop
+wide-requires-2 c κs = search needs
+
+loop-less-2 : tie.Need-loop-less-2 Inv-loop2 μ-loop2 Inv-loop μ-loop
+loop-less-2 c = omega arith
+
+loop-again-2 : tie.Need-loop-again-2 Inv-loop2 μ-loop2 Inv-loop μ-loop
+loop-again-2 c = arrived (c .before .before .before)
+
+loop2-less : tie.Need-loop2-less Inv-loop2 μ-loop2 Inv-loop μ-loop
+loop2-less c = omega arith
+
+one-more : (n : ℕ) → n < n + 1
+one-more n = omega arith
+
+inside : (records words n : ℕ) → 4 * records ≡ words → n < records → n < words / 4
+inside records words n size below = omega arith
+
+loop2-again : tie.Need-loop2-again Inv-loop2 μ-loop2 Inv-loop μ-loop
+loop2-again c =
+    let read = c .before .wide2 .ensures ∙ ap (λ r. r .next) (c .before .before .before .before .before .before .record-at2 .ensures) in
+    let l = c .before .before .before .before .before .before .before .loop2 in
+    let start = c .before .before .before .before .before .before .before .before .before .before .before .before .before .before .before .before .before in
+    (omega (arith, l .inv .0, l .inv .2 .up), omega arith, record { here = arrived (c .before .before .before); is = sym (c .if5 .left) ∙ read; up = one-more _; low = inside _ _ _ (start .pre .1 .1) (omega arith) })
+
+pub follow-spec : {M : Type 1} → statement M
+follow-spec =
+    tie.close
+    (tie.spec
+    Inv-loop2
+    μ-loop2
+    Inv-loop
+    μ-loop
+    begun-requires
+    loop-holds
+    record-at-requires
+    wide-requires
+    at-end-requires
+    returns
+    may-follow-requires
+    returns-2
+    loop2-holds
+    record-at-requires-2
+    add-following
+    judge-requires
+    returns-3
+    onward-requires
+    loop-less
+    loop-again
+    wide-requires-2
+    loop-less-2
+    loop-again-2
+    loop2-less
+    loop2-again)
