@@ -31,3 +31,4 @@ pub mod Checked
 pub mod Agreement
 pub mod Solving
 pub mod Small
+pub mod Release1

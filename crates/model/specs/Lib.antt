@@ -14,3 +14,4 @@ pub mod Boundary
 pub mod Agreement
 pub mod Solve
 pub mod Known
+pub mod Release1
