@@ -2,7 +2,7 @@
 use Prim.Native.Nat.{ℕ, zero, suc, _+_, _-_, _≤_, _<_}
 use native.Mathlib.Omega.{arith}
 use mathlib.Core.Path.{_≡_, refl, sym, subst}
-use mathlib.Core.Bool.{Bool, true, false, cond, not, _&&_, and-comm, and-false, and-eq-true-iff}
+use mathlib.Core.Bool.{Bool, true, false, cond, not, _&&_, and-comm, and-false}
 use lib.Dec.{leb, ltb, eqb}
 use borrow.Author.Tests.{lt-ltb, le-ltb, ltb-true, ltb-false, leb-true, ne-eqb}
 use Rattle.model.specs.Label.{within}
@@ -12,12 +12,6 @@ use Rattle.model.specs.Check.{Open, idle, busy, Kind, opens, subtracts, divides
 use Rattle.checker.specs.declared.Head.{Head}
 use Rattle.checker.specs.declared.Progress.{Progress}
 use Rattle.checker.specs.Steps.{openOf, openNumber, progressOf, total, firstOf, refusalOf}
-
--- a number in a range from 1
-pub within-true : (k n : ℕ) → within k n ≡ true → (0 < k) × (k ≤ n)
-within-true k n e =
-    let both = and-eq-true-iff (ltb 0 k) (leb k n) .0 e in
-    (ltb-true 0 k (both .0), leb-true k n (both .1))
 
 -- 11, by the number of the open table
 pub idle-number : (o : Open) → eqb (openNumber o) 0 ≡ isIdle o

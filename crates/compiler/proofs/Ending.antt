@@ -10,7 +10,7 @@ use Rattle.model.specs.Label.{isOrder}
 use Rattle.model.specs.Fill.{Plan, recordCount}
 use Rattle.model.specs.Program.{compiled}
 use Rattle.model.specs.Compile.{judged, good, written, refusal}
-use Rattle.model.proofs.Plans.{within-range}
+use Rattle.model.proofs.Within.{within-range}
 use Rattle.model.proofs.Bounds.{records-at-most}
 use Rattle.model.proofs.WorkNumbers.{slot-numbers-length}
 use Rattle.model.proofs.Compiles.{Ends, ends-pivot, ends-words, ends-done}

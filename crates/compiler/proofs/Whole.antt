@@ -16,7 +16,8 @@ use Rattle.model.proofs.Labels.{Inside, label-range}
 use Rattle.model.proofs.Fill.{held-in-plan}
 use Rattle.model.proofs.Slots.{slot-zero, slot-range}
 use Rattle.model.proofs.WorkNumbers.{slot-numbers-length, slot-number, held-number}
-use Rattle.model.proofs.Plans.{within-range, plan-length}
+use Rattle.model.proofs.Within.{within-range}
+use Rattle.model.proofs.Plans.{plan-length}
 use Rattle.model.proofs.Counts.{records-counted}
 use Rattle.model.proofs.Bounds.{records-at-most}
 use Rattle.compiler.specs.Prepared.{Prepared}

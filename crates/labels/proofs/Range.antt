@@ -3,25 +3,19 @@ use Prim.Native.Nat.{ℕ, _*_, _≤_, _<_}
 use native.Mathlib.Omega.{arith}
 use mathlib.Core.Path.{_≡_, refl, sym, ap, ap₂, subst}
 use mathlib.Core.Bool.{Bool, true, false, _&&_, and-false, and-eq-true-iff}
-use lib.Dec.{leb, ltb}
-use borrow.Author.Tests.{lt-ltb, ltb-true, le-leb, leb-true}
 use Rattle.model.specs.Label.{isOrder, isPlace, isLabel, within, label, place, Sought, at, outside, sought}
 use Rattle.model.specs.Boundary.{labelNumber}
+use Rattle.model.proofs.Within.{within-range, range-within}
 use Rattle.model.proofs.Labels.{Inside, place-range}
 
 abbrev Within : ℕ → ℕ → Type 0
 Within k n = (0 < k) × (k ≤ n)
 
-within-true : (k n : ℕ) → true ≡ within k n → Within k n
-within-true k n e =
-    let both = and-eq-true-iff (ltb 0 k) (leb k n) .0 (sym e) in
-    (ltb-true 0 k (both .0), leb-true k n (both .1))
-
 within-is : (k n : ℕ) → Within k n → true ≡ within k n
-within-is k n range = ap₂ _&&_ (sym (lt-ltb 0 k (range .0))) (sym (le-leb k n (range .1)))
+within-is k n range = sym (range-within k n (range .0) (range .1))
 
 pub order-true : (N : ℕ) → true ≡ isOrder N → Within N 600
-order-true N e = within-true N 600 e
+order-true N e = within-range N 600 (sym e)
 
 -- places: the test `isPlace`, and the number of a place by its outcome
 
@@ -35,7 +29,7 @@ module _ (N i j : ℕ) where
   isPlace-true e =
       let both = and-eq-true-iff (isOrder N) (within i N && within j N) .0 (sym e) in
       let inner = and-eq-true-iff (within i N) (within j N) .0 (both .1) in
-      omega (arith, within-true N 600 (sym (both .0)), within-true i N (sym (inner .0)), within-true j N (sym (inner .1)))
+      omega (arith, within-range N 600 (both .0), within-range i N (inner .0), within-range j N (inner .1))
 
   pub inside-isPlace : Within N 600 → Inside N i j → true ≡ isPlace N i j
   inside-isPlace order inside = isPlace-is (within-is N 600 order) (within-is i N (omega arith)) (within-is j N (omega arith))
@@ -55,7 +49,7 @@ module _ (N k : ℕ) where
   unfolding isLabel
   isLabel-true e =
       let both = and-eq-true-iff (isOrder N) (within k (N * N)) .0 (sym e) in
-      (within-true N 600 (sym (both .0)), within-true k (N * N) (sym (both .1)))
+      (within-range N 600 (both .0), within-range k (N * N) (both .1))
 
   pub range-isLabel : Within N 600 → Within k (N * N) → true ≡ isLabel N k
   range-isLabel order range = isLabel-is (within-is N 600 order) (within-is k (N * N) range)

@@ -12,7 +12,7 @@ use Rattle.model.specs.Program.{compiled, compiledRecords}
 use Rattle.model.specs.Check.{chain}
 use Rattle.model.specs.Run.{fresh, follow, ran}
 use Rattle.model.specs.Agreement.{Accepted, whole, seen, compressed}
-use Rattle.model.proofs.Plans.{within-range}
+use Rattle.model.proofs.Within.{within-range}
 use Rattle.model.proofs.Runs.{gated-open, lengths-right, ran-fine}
 use Rattle.model.proofs.Tally.{productsOf, quotientsOf}
 use Rattle.model.proofs.Machine.{machine, reduced-started, shown}

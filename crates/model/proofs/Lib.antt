@@ -3,6 +3,7 @@ pub mod Lists
 pub mod Search
 pub mod Sums
 pub mod Arith
+pub mod Within
 pub mod Labels
 pub mod Fill
 pub mod Slots

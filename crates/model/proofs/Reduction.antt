@@ -17,7 +17,7 @@ use Rattle.model.proofs.Labels.{Inside, label-range, place-of-label}
 use Rattle.model.proofs.Plans.{pivot-held, missing-free}
 use Rattle.model.proofs.Picked.{picked, shrunk, shrunk-y, shrunk-x, shrunk-held, shrunk-unheld, shrunk-packed}
 use Rattle.model.proofs.Values.{Sound, sound-nothing, sound-c, sound-y, sound-x, Reads, reads-good, number-good, place-entered, place-same, forward-same, backward-same, unheld-value}
-use Rattle.model.proofs.Beside.{formulaOf, denseOf, beside, Beside, done, kept, left-out, into-y, into-x}
+use Rattle.model.proofs.Beside.{formulaOf, denseOf, beside, Beside, done, on-both, left-out, into-y, into-x}
 
 -- dense Crout's ending, with C compressed and a refusal in C by the slot of its place
 unfoldable pub squeezed : ℕ → Plan → Ended → Ended
@@ -87,7 +87,7 @@ module _ {N : ℕ} {L : Plan} {A B : List Float} (given : Given N L A B) where
   -- dense Crout's tables stay sound to the end
   pub sound-end : {n y x : ℕ} {ds rs : List Formula} {t t′ : Tables} → Beside N L n y x ds rs → Sound N L n t → worked A B t ds ≡ solved t′ → Sound N L (N * N) t′
   sound-end {t = t} {t′} done s e = let same : t ≡ t′ = cc (worked-nil A B t) in subst (Sound N L (N * N)) same s
-  sound-end {t = t} {t′} (kept i j inside turn h rest) s e =
+  sound-end {t = t} {t′} (on-both i j inside turn h rest) s e =
       worked-solved (place-targets N L (label N) _ i j) _ A B t t′ _ e (λ v q r. sound-end rest (place-sound i j inside turn s v q) r)
   sound-end {t = t} {t′} (left-out i j inside turn h rest) s e =
       worked-solved (place-targets N L (label N) _ i j) _ A B t t′ _ e (λ v q r. sound-end rest (place-sound i j inside turn s v q) r)
@@ -118,7 +118,7 @@ module _ {N : ℕ} {L : Plan} {A B : List Float} (given : Given N L A B) where
     pub reduction : {n y x : ℕ} {ds rs : List Formula} {t : Tables} → Beside N L n y x ds rs → Sound N L n t → worked A B (shrunk N L t) rs ≡ squeezed N L (worked A B t ds)
     unfolding squeezed
     reduction {t = t} done s = rw (worked-nil A B t, worked-nil A B (shrunk N L t))
-    reduction {t = t} (kept i j inside turn h rest) s =
+    reduction {t = t} (on-both i j inside turn h rest) s =
         both (place-targets N L (label N) _ i j) (place-targets N L (slot N L) _ i j) t (shrunk N L t) _ _ (place-same reads s (pivot-held N L pivots) i j inside)
         (λ r. rw (place-of-label N i j inside))
         (λ v q. rw (← shrunk-held N L i j inside t v (ap suc (s .count) ∙ turn) h) (reduction rest (place-sound i j inside turn s v q)))

@@ -23,7 +23,8 @@ use Rattle.model.specs.Solve.{replied}
 use Rattle.model.specs.File as File
 use Rattle.model.specs.File.{Filed, filed, writes, reads, wordsOf, checkFile}
 use Rattle.model.proofs.Bytes.{words-length}
-use Rattle.model.proofs.Plans.{within-range, missing-free}
+use Rattle.model.proofs.Within.{within-range}
+use Rattle.model.proofs.Plans.{missing-free}
 use Rattle.model.proofs.Compiles.{compilesBy, compiles-is, compiles-success}
 use Rattle.model.proofs.Runs.{gated-each, lengthsRight, ranBy, ran-is}
 use Rattle.model.proofs.Counts.{words-counted}

@@ -9,7 +9,6 @@ use lib.ListN.{length, length-append}
 use lib.Ieee.{Float}
 use borrow.Author.Tests.{ltb-true, leb-true, eqb-true}
 use Rattle.model.specs.Arith.{Answer, number, overflow, zeroDivisor, quotient, isZero}
-use Rattle.model.specs.Label.{within}
 use Rattle.model.specs.Formula.{Table, C, Y, X, Tables, entry, closed, less}
 use Rattle.model.specs.Check.{Open, idle, busy, Progress, Kind, opens, subtracts, divides, closes, closesPivot, none, inOrder, inTurn, counted, onward}
 use Rattle.model.specs.Run.{State, Stepped, going, stop, closing, subtracted, dividedBy, settledStep, step}
@@ -37,11 +36,6 @@ Room N s (busy t) z = (z .table ≡ t) × (closedIn t (z .tables) < lengthOf N s
 -- both of two tests
 pub both : (a b : Bool) → a && b ≡ true → (a ≡ true) × (b ≡ true)
 both a b = and-eq-true-iff a b .0
-
-pub within-true : (k n : ℕ) → within k n ≡ true → (0 < k) × (k ≤ n)
-within-true k n e =
-    let t = both (ltb 0 k) (leb k n) e in
-    (ltb-true 0 k (t .0), leb-true k n (t .1))
 
 -- the state after a record of kind k: its progress is the check's, a target that is open has room, and at most one operation more was made
 pub record After (N s : ℕ) (o : Open) (z : State) (k : Kind) (z′ : State) : Type 0 where

@@ -11,10 +11,11 @@ use borrow.Author.Tests.{ltb-true, leb-true, eqb-true}
 use Rattle.model.specs.Label.{within}
 use Rattle.model.specs.Formula.{Table, C, Y, X}
 use Rattle.model.specs.Check.{Open, idle, busy, Kind, opens, subtracts, divides, closes, closesPivot, none, inOrder, inTurn}
+use Rattle.model.proofs.Within.{within-range}
 use Rattle.runner.specs.declared.State.{State}
 use Rattle.runner.specs.States.{stateOf, Sound, Free, Allowed}
 use Rattle.runner.proofs.Steps.{Counts, counted}
-use Rattle.runner.proofs.Progress.{progressOf, Room, both, within-true}
+use Rattle.runner.proofs.Progress.{progressOf, Room, both}
 
 module _ (N n s : ℕ) (A c y x : List Float) (z : State) (sound : Sound (length c) (length y) (length x) z) (in-a : length A ≡ n) (in-c : length c ≡ s) (in-y : length y ≡ N) (in-x : length x ≡ N) where
   counts : Counts z c y x
@@ -43,16 +44,16 @@ module _ (N n s : ℕ) (A c y x : List Float) (z : State) (sound : Sound (length
         omega (arith, counts .of-y, ltb-true 0 p (u .0), leb-true p (length (take (z .y) y)) (t .1))
     relies o (subtracts C) order turn room =
         let t = both (within p (length (take (z .c) c))) (within q (length (take (z .c) c))) turn in
-        omega (arith, counts .of-c, within-true p (length (take (z .c) c)) (t .0), within-true q (length (take (z .c) c)) (t .1))
+        omega (arith, counts .of-c, within-range p (length (take (z .c) c)) (t .0), within-range q (length (take (z .c) c)) (t .1))
     relies o (subtracts Y) order turn room =
         let t = both (within p (length (take (z .c) c))) (within q (length (take (z .y) y))) turn in
-        omega (arith, counts .of-c, counts .of-y, within-true p (length (take (z .c) c)) (t .0), within-true q (length (take (z .y) y)) (t .1))
+        omega (arith, counts .of-c, counts .of-y, within-range p (length (take (z .c) c)) (t .0), within-range q (length (take (z .y) y)) (t .1))
     relies o (subtracts X) order turn room =
         let m = N - length (drop (length x - z .x) x) in
         let t = both (within p (length (take (z .c) c))) (ltb m q && leb q N) turn in
         let u = both (ltb m q) (leb q N) (t .1) in
-        omega (arith, counts .of-c, counts .of-x, within-true p (length (take (z .c) c)) (t .0), ltb-true m q (u .0), leb-true q N (u .1))
-    relies o divides order turn room = omega (arith, counts .of-c, within-true p (length (take (z .c) c)) turn)
+        omega (arith, counts .of-c, counts .of-x, within-range p (length (take (z .c) c)) (t .0), ltb-true m q (u .0), leb-true q N (u .1))
+    relies o divides order turn room = omega (arith, counts .of-c, within-range p (length (take (z .c) c)) turn)
     relies (busy u) closes order turn room = room-free u room
     relies idle closes order turn room = absurd (false≢true order)
     relies (busy u) closesPivot order turn room = room-free u room

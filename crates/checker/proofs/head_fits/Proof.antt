@@ -4,7 +4,7 @@ use native.Mathlib.Nat.{mul-le-mul}
 use native.Mathlib.Omega.{arith}
 use mathlib.Core.Path.{sym, _∙_}
 use borrow.Author.Tests.{le-leb, lt-leb}
-use Rattle.checker.proofs.Judging.{within-true}
+use Rattle.model.proofs.Within.{within-range}
 use borrow.Author.Needs.{needs}
 use Rattle.checker.proofs.head_fits.Statement.{statement}
 use Rattle.checker.proofs.head_fits.Tie as tie
@@ -15,7 +15,7 @@ within-requires c κs = search needs
 square-small : (c : tie.Then1) → let n = c .before .before .args .h .order in n * n ≤ 360000
 square-small c =
     let n = c .before .before .args .h .order in
-    let small = within-true n 600 (sym (c .before .within .ensures) ∙ c .if1 .taken) in
+    let small = within-range n 600 (sym (c .before .within .ensures) ∙ c .if1 .taken) in
     omega (arith, mul-le-mul {n₁ = n} {m₁ = n} {n₂ = 600} {m₂ = 600} (small .1) (small .1))
 
 mul-if2 : tie.Need-mul-if2

@@ -7,7 +7,8 @@ use lib.Dec.{ltb}
 use borrow.Author.Tests.{not-true, not-false}
 use Rattle.model.specs.Formula.{C, Y, X}
 use Rattle.model.specs.Check.{kindOf}
-use Rattle.checker.proofs.Judging.{within-true, subtracting, readable-is, closed-x}
+use Rattle.model.proofs.Within.{within-range}
+use Rattle.checker.proofs.Judging.{subtracting, readable-is, closed-x}
 use borrow.Author.Needs.{needs}
 use Rattle.checker.proofs.readable.Statement.{statement}
 use Rattle.checker.proofs.readable.Tie as tie
@@ -33,7 +34,7 @@ within-requires-4 c κs = search needs
 sub-result : tie.Need-sub-result
 sub-result c =
     let a = c .before .before .before .before .before .before .args in
-    omega (arith, within-true (a .q) (a .h .order) (sym (c .before .before .within4 .ensures) ∙ c .before .if2 .taken))
+    omega (arith, within-range (a .q) (a .h .order) (sym (c .before .before .within4 .ensures) ∙ c .before .if2 .taken))
 
 returns-2 : tie.Need-returns-2
 unfolding kindOf

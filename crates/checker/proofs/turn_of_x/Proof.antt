@@ -4,7 +4,8 @@ use mathlib.Core.Path.{ap, sym, _∙_}
 use mathlib.Core.Bool.{_&&_}
 use native.Mathlib.Omega.{arith}
 use lib.Dec.{eqb}
-use Rattle.checker.proofs.Judging.{within-true, opens-x-turn}
+use Rattle.model.proofs.Within.{within-range}
+use Rattle.checker.proofs.Judging.{opens-x-turn}
 use borrow.Author.Needs.{needs}
 use Rattle.checker.proofs.turn_of_x.Statement.{statement}
 use Rattle.checker.proofs.turn_of_x.Tie as tie
@@ -15,7 +16,7 @@ within-requires c κs = search needs
 add-result : tie.Need-add-result
 add-result c =
     let a = c .before .before .args in
-    omega (arith, within-true (a .p) (a .g .y) (sym (c .before .within .ensures) ∙ c .if1 .taken))
+    omega (arith, within-range (a .p) (a .g .y) (sym (c .before .within .ensures) ∙ c .if1 .taken))
 
 returns : tie.Need-returns
 returns c =

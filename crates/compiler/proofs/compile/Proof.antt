@@ -9,7 +9,7 @@ use lib.ListN.{length}
 use borrow.Author.Needs.{needs}
 use borrow.Author.Tests.{not-true, not-false}
 use Rattle.model.specs.Label.{isOrder}
-use Rattle.model.proofs.Plans.{within-range}
+use Rattle.model.proofs.Within.{within-range}
 use Rattle.model.proofs.Compiles.{ends-order, ends-room, ends-labels}
 use Rattle.compiler.specs.Judge.{labelsOf}
 use Rattle.compiler.proofs.compile.Statement.{statement}

@@ -4,7 +4,7 @@ use native.Mathlib.Nat.{mul-le-mul}
 use mathlib.Core.Path.{refl, subst}
 use denote.Ref.{now}
 use borrow.Author.Needs.{needs}
-use Rattle.model.proofs.Plans.{within-range}
+use Rattle.model.proofs.Within.{within-range}
 use Rattle.compiler.specs.Walked.{Fills, AllHeld, PivotMissing}
 use Rattle.compiler.proofs.Ending.{missing-ends, records-fit, short-ends, prepared, done-ends}
 use Rattle.compiler.proofs.compile_good.Statement.{statement}

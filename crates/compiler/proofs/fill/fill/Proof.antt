@@ -8,7 +8,7 @@ use mathlib.Core.Path.{_≡_, sym, ap, ap₂, _∙_}
 use lib.ListN.{length}
 use Rattle.model.proofs.Batches.{downOf, rightOf, batchProducts, line-at-most, batch-at-most, batches-at-most}
 use Rattle.model.specs.Fill.{held}
-use Rattle.model.proofs.Plans.{within-range}
+use Rattle.model.proofs.Within.{within-range}
 use Rattle.compiler.specs.Walked.{Checked}
 use Rattle.compiler.proofs.Along.{checked-again}
 use Rattle.compiler.proofs.Pass.{Passing, ColumnDone, RowDone, noted-none, pass-start, column-done, row-done, pass-missing, down-given, pass-next, pass-end}
