@@ -42,6 +42,10 @@ abbrev pub refusalOf : Head → Progress → ℕ → ℕ → ℕ → ℕ
 refusalOf h g kind p q =
     firstOf (formed (kindOf kind) p q) (inOrder (kindOf kind) (openOf (g .target))) (inTurn (h .order) (h .coefficients) (h .slots) (kindOf kind) p q (progressOf g))
 
+-- none of 10 to 12 refuses the record
+abbrev pub rightIn : Head → Progress → ℕ → ℕ → ℕ → Bool
+rightIn h g kind p q = eqb (refusalOf h g kind p q) 0
+
 -- 7: a count of words that a program can have
 abbrev pub countFits : ℕ → Bool
 countFits n = ltb 0 n && (eqb (n % 4) 0 && leb (n / 4) 100000000)

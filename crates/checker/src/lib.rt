@@ -6,7 +6,7 @@ ghost use lib.Dec.{ltb, eqb};
 ghost use lib.ListN.{length};
 ghost use Rattle.model.specs.Label.{within as Label·within};
 ghost use Rattle.model.specs.Formula.{C, Y, X};
-ghost use Rattle.model.specs.Check.{word, opens, kindOf, inTurn, counted, whole, atEnd};
+ghost use Rattle.model.specs.Check.{word, idle, opens, kindOf, inTurn, counted, whole, atEnd};
 ghost use Rattle.model.specs.Check.{check as Check·check};
 ghost use Rattle.model.specs.Check.{complete as Check·complete};
 ghost use Rattle.model.specs.Check.{begun as Check·begun};
@@ -14,7 +14,7 @@ ghost use Rattle.model.specs.Check.{onward as Check·onward};
 ghost use Rattle.model.specs.File.{wordsOf, checkFile};
 ghost use Rattle.checker.specs.Checked.{verdictOf};
 ghost use Rattle.checker.specs.Source.{content, recordOf};
-ghost use Rattle.checker.specs.Steps.{openOf, openNumber, progressOf, total, firstOf, refusalOf, countFits, headFits, followed};
+ghost use Rattle.checker.specs.Steps.{openOf, openNumber, progressOf, total, firstOf, refusalOf, rightIn, countFits, headFits, followed};
 
 // What a check answers: nothing wrong, or a refusal's number and its detail.
 pub enum Checked {
@@ -142,10 +142,9 @@ fn follow(words: &[u32], bytes: &[u8], filed: bool, h: Head, records: usize) -> 
         loop {
             let r = record_at(words, bytes, filed, next);
             let following = next + 1;
-            let number = judge(h, g, r.kind, r.p, r.q);
-            if number != 0 {
+            if !is_right(h, g, r.kind, r.p, r.q) {
                 return Checked::Refused {
-                    number,
+                    number: judge(h, g, r.kind, r.p, r.q),
                     detail: next as u64,
                 };
             }
@@ -255,7 +254,47 @@ fn begun() -> Progress
     }
 }
 
-// The number of a record's refusal, 10 to 12, or 0: a number, and no enum with the next progress, since it comes back in a register.
+// Whether a record is refused by none of 10 to 12. What is open is asked first, which leaves few kinds: a right record passes by three or four
+// tests, and `judge`, by kinds, is left to name what is wrong.
+fn is_right(h: Head, g: Progress, kind: u32, p: u32, q: u32) -> bool
+    requires { ⌜ total (progressOf g) ≤ 100000000 ⌝ }
+    ensures { λ v. ⌜ v ≡ rightIn h g kind p q ⌝ }
+{
+    let target = g.target;
+    let open = open_number(target);
+    if open == 0 {
+        return opens_rightly(h, g, kind, p, q);
+    }
+    if kind == open + 3 {
+        return readable(h, g, kind, p, q);
+    }
+    if kind == 7 {
+        return q == 0 && within(p, g.c);
+    }
+    if kind == 8 {
+        return unused(p, q);
+    }
+    kind == 9 && (open == 1 && unused(p, q))
+}
+
+// The same while nothing is open: only kinds 1 to 3 are right.
+fn opens_rightly(h: Head, g: Progress, kind: u32, p: u32, q: u32) -> bool
+    requires { ⌜ (openOf (g .target) ≡ idle) × (total (progressOf g) ≤ 100000000) ⌝ }
+    ensures { λ v. ⌜ v ≡ rightIn h g kind p q ⌝ }
+{
+    if kind == 1 {
+        return turn_of_c(h, g, p, q);
+    }
+    if kind == 2 {
+        return q == 0 && turn_of_y(h, g, p);
+    }
+    if kind == 3 {
+        return q == 0 && turn_of_x(h, g, p);
+    }
+    false
+}
+
+// The number of a record's refusal, 10 to 12, or 0.
 fn judge(h: Head, g: Progress, kind: u32, p: u32, q: u32) -> u32
     requires { ⌜ total (progressOf g) ≤ 100000000 ⌝ }
     ensures { λ r. ⌜ r ≡ refusalOf h g kind p q ⌝ }

@@ -4,8 +4,8 @@ use Prim.Native.Nat.{ℕ, _+_, _-_, _*_, _/_, _≤_, _<_}
 use mathlib.Core.Path.{_≡_, sym, ap, _∙_}
 use native.Mathlib.Omega.{arith}
 use borrow.Author.Needs.{needs}
-use borrow.Author.Tests.{not-true, not-false}
-use Rattle.model.specs.Check.{nextOf, kindOf, onward}
+use borrow.Author.Tests.{not-true, not-false, eqb-true, eqb-false}
+use Rattle.model.specs.Check.{nextOf, refusal, kindOf, onward}
 use Rattle.checker.specs.Source.{content}
 use Rattle.checker.specs.Steps.{progressOf, refusalOf}
 use Rattle.checker.proofs.Turns.{Going, Facing, Turn, next-true, begins, ends, breaks, goes-on, stops}
@@ -70,25 +70,30 @@ record-at-requires-2 c κs = omega arith
 add-following : tie.Need-add-following Inv-loop2 μ-loop2 Inv-loop μ-loop
 add-following c = omega arith
 
+is-right-requires : tie.Need-is-right-requires Inv-loop2 μ-loop2 Inv-loop μ-loop
+is-right-requires c κs = omega arith
+
 judge-requires : tie.Need-judge-requires Inv-loop2 μ-loop2 Inv-loop μ-loop
 judge-requires c κs = omega arith
 
+-- the refusal of the next record, or 0
+abbrev refusal-now : (c : tie.After-record-at2 Inv-loop2 μ-loop2 Inv-loop μ-loop) → ℕ
+refusal-now c = let r = c .record-at2 .result in refusalOf (c .before .before .before .before .before .before .before .before .before .before .before .args .h) (c .before .loop2 .g) (r .kind) (r .p) (r .q)
+
 -- the next record and its refusal
-turn : (j : tie.After-judge Inv-loop2 μ-loop2 Inv-loop μ-loop) → let a = j .before .before .before .before .before .before .before .before .before .before .before .before .args in let l = j .before .before .loop2 in
-    Turn (a .h) (content (a .filed) (a .words .now) (a .bytes .now)) (l .g) (l .k) (l .next) (j .judge .result)
-turn j =
-    let l = j .before .before .loop2 in
+turn : (c : tie.After-record-at2 Inv-loop2 μ-loop2 Inv-loop μ-loop) → let a = c .before .before .before .before .before .before .before .before .before .before .before .args in let l = c .before .loop2 in
+    Turn (a .h) (content (a .filed) (a .words .now) (a .bytes .now)) (l .g) (l .k) (l .next) (refusal-now c)
+turn c =
+    let l = c .before .loop2 in
+    let h = c .before .before .before .before .before .before .before .before .before .before .before .args .h in
     let f = l .inv .2 in
-    record {
-      here = f .here;
-      is = f .is;
-      up = f .up;
-      low = f .low;
-      refusal-is = j .judge .ensures ∙ ap (λ r. refusalOf (j .before .before .before .before .before .before .before .before .before .before .before .before .args .h) (l .g) (r .kind) (r .p) (r .q)) (j .before .record-at2 .ensures);
-    }
+    record { here = f .here; is = f .is; up = f .up; low = f .low; refusal-is = ap (λ r. refusalOf h (l .g) (r .kind) (r .p) (r .q)) (c .record-at2 .ensures) }
 
 returns-3 : tie.Need-returns-3 Inv-loop2 μ-loop2 Inv-loop μ-loop
-returns-3 c = stops _ _ _ _ _ _ (turn (c .before)) (c .if3 .taken)
+returns-3 c =
+    let read = c .before .before .before in
+    let wrong = sym (c .before .before .is-right .ensures) ∙ not-true _ (c .before .if3 .taken) in
+    ap (λ m. refusal m (read .before .loop2 .next)) (c .judge .ensures) ∙ stops _ _ _ _ _ _ (turn read) (eqb-false (refusal-now read) 0 wrong)
 
 onward-requires : tie.Need-onward-requires Inv-loop2 μ-loop2 Inv-loop μ-loop
 onward-requires c κs = omega arith
@@ -97,9 +102,10 @@ onward-requires c κs = omega arith
 arrived : (o : tie.After-onward Inv-loop2 μ-loop2 Inv-loop μ-loop) → let a = o .before .before .before .before .before .before .before .before .before .before .before .before .before .before .args in
     Going (a .h) (content (a .filed) (a .words .now) (a .bytes .now)) (o .onward .result) (o .before .before .before .before .loop2 .next)
 arrived o =
-    let l = o .before .before .before .before .loop2 in
-    goes-on _ _ _ _ _ _ (turn (o .before .before)) (o .before .if3 .left) (o .onward .result)
-    (o .onward .ensures ∙ ap (λ r. onward (kindOf (r .kind)) (progressOf (l .g))) (o .before .before .before .record-at2 .ensures))
+    let read = o .before .before .before in
+    let right = sym (o .before .before .is-right .ensures) ∙ not-false _ (o .before .if3 .left) in
+    goes-on _ _ _ _ _ _ (turn read) (eqb-true (refusal-now read) 0 right) (o .onward .result)
+    (o .onward .ensures ∙ ap (λ r. onward (kindOf (r .kind)) (progressOf (read .before .loop2 .g))) (read .record-at2 .ensures))
 
 nearer : (records k₀ k next : ℕ) → k₀ ≤ k → k < next → next < records → records - next < records - k₀
 nearer records k₀ k next from up low = omega arith
@@ -154,6 +160,7 @@ follow-spec =
     loop2-holds
     record-at-requires-2
     add-following
+    is-right-requires
     judge-requires
     returns-3
     onward-requires
