@@ -5,7 +5,9 @@
    slice of no entries still has a pointer that isn't null.
 
    A call that can refuse returns 0, or the refusal's number times 2^32 plus its detail, and puts its further numbers into out,
-   three of them, zeros where none is named. */
+   three of them, zeros where none is named. crout_refusal and crout_detail split what was returned, crout_refusal_text says it.
+
+   The header is C99 and C++. examples/ has programs that call it. */
 #ifndef CROUT_H
 #define CROUT_H
 
@@ -15,6 +17,100 @@
 #ifdef __cplusplus
 extern "C" {
 #endif
+
+/* The refusals, numbered as in document 01. The comment is the detail; where there is none, the detail is 0. */
+enum crout_refusal_number {
+    CROUT_ORDER = 1,
+    CROUT_WORK_SHORT = 2,      /* the numbers needed, n * n */
+    CROUT_LABEL_RANGE = 3,     /* the label's position in the plan, from 1 */
+    CROUT_LABEL_TURN = 4,      /* the label's position in the plan, from 1 */
+    CROUT_PIVOT_MISSING = 5,   /* the smallest m whose pivot (m, m) is missing */
+    CROUT_WORDS_SHORT = 6,     /* the records; four words are needed for each */
+    CROUT_WORD_COUNT = 7,
+    CROUT_HEAD = 8,
+    CROUT_NEXT = 9,            /* the record, as for 10, 11 and 12; 0 for the "first" of record 0 */
+    CROUT_KIND = 10,
+    CROUT_OPEN = 11,
+    CROUT_OPERAND = 12,
+    CROUT_UNFINISHED = 13,
+    CROUT_LENGTHS = 14,
+    CROUT_NOT_FINITE = 15,     /* the position in a, or if all of a is finite in b, from 1 */
+    CROUT_OVERFLOW = 16,       /* the record, as for 17 */
+    CROUT_ZERO = 17,
+    CROUT_FILE_BYTES = 18,
+    CROUT_OUTPUT_SHORT = 19,   /* the entries needed */
+    CROUT_LISTING_TEXT = 20    /* the listing program's alone: the byte's position in its input, from 1 */
+};
+
+/* The refusal's number in what a call returned, 0 if it didn't refuse. */
+static inline uint32_t crout_refusal(uint64_t answer) {
+    return (uint32_t)(answer >> 32);
+}
+
+/* The refusal's detail. One alone can pass 32 bits and so go over into the number: the words that crout_read needs for a file of
+   16 GiB or more. */
+static inline uint32_t crout_detail(uint64_t answer) {
+    return (uint32_t)(answer & 0xffffffffu);
+}
+
+/* What a refusal's number means and what to do about it, as one sentence with no full stop. Every number has one. */
+static inline const char *crout_refusal_text(uint32_t number) {
+    switch (number) {
+    case 0:
+        return "not refused: the call did what it was asked";
+    case CROUT_ORDER:
+        return "the order is outside 1 to 600: give an order in that range";
+    case CROUT_WORK_SHORT:
+        return "the work slice is too short: lend as many numbers as the detail says, the square of the order";
+    case CROUT_LABEL_RANGE:
+        return "a label is not in the table of this order: correct the one at the position that the detail gives";
+    case CROUT_LABEL_TURN:
+        return "a label is not above the one before it: sort the plan and name each place once; the detail is the position";
+    case CROUT_PIVOT_MISSING:
+        return "a pivot is missing, so no coefficients can be solved: put the place (m, m) into the plan, m being the detail, "
+               "or number the unknowns otherwise";
+    case CROUT_WORDS_SHORT:
+        return "the word slice is too short: lend four words for each record, as many records as the detail says";
+    case CROUT_WORD_COUNT:
+        return "there are no words, or their count is not a multiple of four or is above 400,000,000: "
+               "the program is cut off or is none; fetch it or compile the plan again";
+    case CROUT_HEAD:
+        return "record 0 has an order, a count of coefficients or a count of slots out of range: "
+               "the program is damaged or is none; fetch it or compile the plan again";
+    case CROUT_NEXT:
+        return "a record's next does not lead onward within the program: the program is damaged; fetch it or compile the plan again";
+    case CROUT_KIND:
+        return "a record's kind is unknown, or an operand that its kind does not use is not 0: "
+               "the program is damaged or from another compiler; compile the plan again";
+    case CROUT_OPEN:
+        return "a record opens an entry while one is open, or works on one while none or one of the wrong table is: "
+               "the program is damaged or from another compiler; compile the plan again";
+    case CROUT_OPERAND:
+        return "a record reads an entry that is out of range or not closed, or opens one out of turn: "
+               "the program is damaged or from another compiler; compile the plan again";
+    case CROUT_UNFINISHED:
+        return "the program ends with an entry open or before all of C, Y and X are closed: "
+               "the program is cut off or damaged; fetch it or compile the plan again";
+    case CROUT_LENGTHS:
+        return "a slice has not the length that the program wants: lend a, b, c, y and x with as many entries as words 1, 0, 2, 0 and 0 say";
+    case CROUT_NOT_FINITE:
+        return "a coefficient or a right side is infinite or not a number: correct the one at the position that the detail gives, "
+               "in a, or if all of a is finite in b";
+    case CROUT_OVERFLOW:
+        return "a result is too large for a double: scale the equations; the detail is the record";
+    case CROUT_ZERO:
+        return "a pivot or a divisor is zero, so these coefficients have no solution in this order: "
+               "correct them or number the unknowns otherwise; the detail is the record";
+    case CROUT_FILE_BYTES:
+        return "the byte count is not a multiple of four: the file is cut off or is no program; fetch it again";
+    case CROUT_OUTPUT_SHORT:
+        return "the output slice is too short: lend as many entries as the detail says";
+    case CROUT_LISTING_TEXT:
+        return "the listing program's input is bad: correct it at the byte position that the detail gives";
+    default:
+        return "no refusal has this number: what was split is not what a call returned, or a detail has passed 32 bits";
+    }
+}
 
 /* The label of row i, column j in a table of order n; 0 if any of the three is out of range.
    The order is 1 to 600, row and column are 1 to n. */

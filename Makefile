@@ -1,0 +1,47 @@
+# make demo      the examples: two texts compiled, filed, checked and run
+# make pictures  docs/pictures, drawn anew
+# make test      the gate
+# make bench     the exported functions beside plain Rust
+# make clean     removes build/; target/ belongs to rt
+#
+# Wanted: rt, gcc, and for test and bench cargo. Nothing is installed, and nothing outside this folder is written.
+
+LIBRARY = target/staticlib/libcapi.a
+PROVED = crates.txt $(shell find crates -type f)
+
+CC = gcc
+CFLAGS = -std=c11 -O2 -Wall -Wextra -Werror -pedantic
+SHARED = build/basics.o build/plan_text.o build/plan.o
+HEADERS = include/crout.h $(wildcard examples/*.h)
+
+.PHONY: demo pictures test bench clean
+
+demo: build/sheet
+	build/sheet examples/document002.txt build/document002.crout
+	build/sheet examples/heating.txt build/heating.crout
+
+pictures: docs/pictures/document002.svg docs/pictures/grid.svg
+
+docs/pictures/%.svg: examples/%.txt build/spy
+	mkdir -p docs/pictures
+	build/spy $< >build/$*.svg
+	mv build/$*.svg $@
+
+test:
+	.ci/run
+
+bench: $(LIBRARY)
+	cargo run --offline --release --manifest-path bench/Cargo.toml
+
+build/sheet build/spy: build/%: build/%.o $(SHARED) $(LIBRARY)
+	$(CC) $(LDFLAGS) $^ -o $@
+
+build/%.o: examples/%.c $(HEADERS) Makefile
+	mkdir -p build
+	$(CC) $(CFLAGS) -Iinclude -c $< -o $@
+
+$(LIBRARY): $(PROVED)
+	rt staticlib capi
+
+clean:
+	rm -rf build
