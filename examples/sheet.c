@@ -117,11 +117,12 @@ static void say_target(const struct plan *plan, const uint64_t out[3]) {
 
 static void say_ending(const struct value_set *set, uint32_t number) {
     printf("values %s: %s", set->name, number == 0 ? "solved" : "refused");
-    if (number != set->expected)
-        printf(", and refusal %" PRIu32 " was expected (0 for none)", set->expected);
-    else if (number != 0)
-        printf(", as expected");
-    printf("\n");
+    if (set->expected == 0)
+        printf("\n");
+    else if (number == set->expected)
+        printf(", as expected\n");
+    else
+        printf(", but refusal %" PRIu32 " was expected\n", set->expected);
 }
 
 /* Whether the set ended as the text expects. */

@@ -94,15 +94,15 @@ static void draw_heading(const struct picture *picture) {
     printf("<rect width=\"%u\" height=\"%u\" fill=\"#fff\"/>\n", picture->width, picture->height);
     printf("<text x=\"%u\" y=\"28\" font-size=\"15\">Order %" PRIu32 ": ", picture->left, plan->order);
     if (picture->missing == 0)
-        printf("%zu places, %" PRIu64 " fill, %" PRIu64 " records</text>\n", plan->count, plan->held - plan->count, plan->records);
+        printf("places %zu, fill %" PRIu64 ", records %" PRIu64 "</text>\n", plan->count, plan->held - plan->count, plan->records);
     else
-        printf("%zu places, refused</text>\n", plan->count);
+        printf("places %zu, refused</text>\n", plan->count);
 }
 
 /* How far apart the numbers at the edge stand, so that they don't touch. */
 static uint32_t number_step(const struct picture *picture) {
-    static const uint32_t steps[] = {1, 2, 5, 10, 20, 50};
-    const unsigned needed = picture->plan->order < 100 ? 16 : 26;
+    static const uint32_t steps[] = {1, 5, 10, 20, 50};
+    const unsigned needed = picture->plan->order < 100 ? 20 : 26;
     size_t k = 0;
     while (k + 1 < sizeof steps / sizeof steps[0] && steps[k] * picture->cell < needed)
         k++;
@@ -151,19 +151,24 @@ static void draw_slot(const struct picture *picture, uint32_t row, uint32_t colu
 }
 
 static void draw_each(const struct picture *picture, enum kind kind,
-                      void (*draw)(const struct picture *picture, uint32_t row, uint32_t column)) {
+                      void (*draw_one)(const struct picture *picture, uint32_t row, uint32_t column)) {
     const uint32_t order = picture->plan->order;
     for (uint32_t i = 1; i <= order; i++)
         for (uint32_t j = 1; j <= order; j++)
             if (kind_at(picture, i, j) == kind)
-                draw(picture, i, j);
+                draw_one(picture, i, j);
+}
+
+/* Whether the squares are large enough for the slots, and the slots known. */
+static int has_slots(const struct picture *picture) {
+    return picture->cell >= 24 && picture->missing == 0;
 }
 
 static void draw_kind(const struct picture *picture, enum kind kind, const char *colour, const char *slot_colour) {
     printf("<g fill=\"%s\">\n", colour);
     draw_each(picture, kind, draw_square);
     printf("</g>\n");
-    if (picture->cell < 24 || picture->missing != 0)
+    if (!has_slots(picture))
         return;
     /* the numbers let the pointer through to the squares, which have the tool tips */
     printf("<g fill=\"%s\" text-anchor=\"middle\" pointer-events=\"none\">\n", slot_colour);
@@ -188,19 +193,27 @@ static void draw_missing(const struct picture *picture) {
         }
 }
 
-static void draw_legend(const struct picture *picture) {
-    const unsigned x = picture->left, y = picture->top + picture->side + 18;
-    printf("<rect x=\"%u\" y=\"%u\" width=\"14\" height=\"14\" fill=\"" PLAN_COLOUR "\"/><text x=\"%u\" y=\"%u\">in the plan</text>\n", x,
-           y, x + 21, y + 12);
-    printf("<rect x=\"%u\" y=\"%u\" width=\"14\" height=\"14\" fill=\"" FILL_COLOUR "\"/><text x=\"%u\" y=\"%u\">fill</text>\n", x + 120, y,
-           x + 141, y + 12);
-    if (picture->missing == 0)
-        return;
+static void draw_sample(unsigned x, unsigned y, const char *colour, const char *meaning) {
+    printf("<rect x=\"%u\" y=\"%u\" width=\"14\" height=\"14\" fill=\"%s\"/><text x=\"%u\" y=\"%u\">%s</text>\n", x, y, colour, x + 21,
+           y + 12, meaning);
+}
+
+static void draw_refusal(const struct picture *picture, unsigned x, unsigned y) {
     draw_mark(x + 206, y + 7, 7);
     printf("</g><text x=\"%u\" y=\"%u\">missing pivot</text>\n", x + 221, y + 12);
     printf("<text x=\"%u\" y=\"%u\">Refused by 5: pivot %" PRIu32 " is missing, the first of those marked.</text>\n", x, y + 38,
            picture->missing);
     printf("<text x=\"%u\" y=\"%u\">Fill and marks are worked out for this picture, by the fill rule.</text>\n", x, y + 57);
+}
+
+static void draw_legend(const struct picture *picture) {
+    const unsigned x = picture->left, y = picture->top + picture->side + 18;
+    draw_sample(x, y, PLAN_COLOUR, "in the plan");
+    draw_sample(x + 120, y, FILL_COLOUR, "fill");
+    if (has_slots(picture))
+        printf("<text x=\"%u\" y=\"%u\">numbers: slots</text>\n", x + 200, y + 12);
+    if (picture->missing != 0)
+        draw_refusal(picture, x, y);
 }
 
 static void draw(const struct picture *picture) {

@@ -1,0 +1,113 @@
+#!/usr/bin/env bash
+# The examples and what the header itself defines, against target/staticlib/libcapi.a, by gcc and g++. The first difference ends it
+# with a message and status 1.
+set -euo pipefail
+cd "$(dirname "$0")/.."
+
+library=target/staticlib/libcapi.a
+strict=(-O2 -Wall -Wextra -Werror -pedantic -Iinclude)
+at=build/test
+
+fail() {
+    printf 'tests/examples.sh: %s\n' "$1" >&2
+    exit 1
+}
+
+# same FILE STATUS COMMAND..: the command says what the file holds, on both outputs, and ends with this status
+same() {
+    local stored=$1 status=$2 ended=0
+    shift 2
+    "$@" >$at/said 2>&1 || ended=$?
+    diff -u "$stored" $at/said || fail "'$*' doesn't say what $stored holds"
+    [ "$ended" = "$status" ] || fail "'$*' ended with $ended and not with $status"
+}
+
+# says LINE STATUS COMMAND..: the same for one line
+says() {
+    printf '%s\n' "$1" >$at/line
+    shift
+    same $at/line "$@"
+}
+
+# broken MESSAGE TEXT: both programs report this of the text, and nothing else; the message begins with the line's number
+broken() {
+    printf '%b' "$2" >$at/broken.txt
+    says "$at/broken.txt:$1" 1 $at/sheet $at/broken.txt $at/broken.crout
+    says "$at/broken.txt:$1" 1 $at/spy $at/broken.txt
+    [ ! -e $at/broken.crout ] || fail "a program was written for the broken text: $1"
+}
+
+for tool in gcc g++; do
+    command -v $tool >/dev/null || fail "there is no $tool"
+done
+[ -e $library ] || fail "there is no $library: rt staticlib capi"
+rm -rf $at
+mkdir -p $at
+
+# the header
+gcc -std=c99 "${strict[@]}" tests/c/texts.c -o $at/texts_c
+g++ -std=c++11 "${strict[@]}" -x c++ tests/c/texts.c -o $at/texts_cpp
+$at/texts_c
+$at/texts_cpp
+
+for name in sheet spy; do
+    gcc -std=c11 "${strict[@]}" examples/$name.c examples/plan.c examples/plan_text.c examples/basics.c $library -o $at/$name
+done
+
+# sheet: the published systems, then plans that are refused and every ending of a set
+same tests/examples/document002.out 0 $at/sheet examples/document002.txt $at/document002.crout
+same tests/examples/heating.out 0 $at/sheet examples/heating.txt $at/heating.crout
+same tests/examples/endings.out 1 $at/sheet tests/examples/endings.txt $at/endings.crout
+same tests/examples/missing.out 1 $at/sheet tests/examples/missing.txt $at/refused.crout
+same tests/examples/twice.out 1 $at/sheet tests/examples/twice.txt $at/refused.crout
+[ ! -e $at/refused.crout ] || fail "a program was written for a refused plan"
+
+# a program file that doesn't keep what is written to it, and one that can't be written
+same tests/examples/lost.out 1 $at/sheet examples/document002.txt /dev/null
+$at/sheet examples/document002.txt /dev/full >$at/said 2>&1 && fail "a full disk went unnoticed"
+grep -q '^/dev/full: ' $at/said || fail "a full disk wasn't reported"
+$at/sheet examples/document002.txt $at/document002.crout >/dev/full 2>$at/said && fail "lost output went unnoticed"
+says 'usage: sheet FILE.txt PROGRAM.crout' 2 $at/sheet examples/document002.txt
+
+# spy: the stored pictures, and a plan of the largest order
+same docs/pictures/document002.svg 0 $at/spy examples/document002.txt
+same docs/pictures/grid.svg 0 $at/spy examples/grid.txt
+same tests/examples/missing.svg 0 $at/spy tests/examples/missing.txt
+says 'usage: spy FILE.txt > PICTURE.svg' 2 $at/spy
+$at/spy tests/examples/twice.txt >$at/said 2>&1 && fail "spy drew a plan with a place twice"
+{
+    echo 'order 600'
+    for i in {2..600}; do echo "place $i $i  $i 1  1 $i"; done
+    echo 'place 1 1'
+} >$at/arrow.txt
+[ "$($at/spy $at/arrow.txt | grep -c '<title>slot ')" = 360000 ] || fail "the arrow of order 600 isn't filled"
+
+# bad lines
+broken '1: the text ends without an order' '# nothing\n'
+broken '1: the order is outside 1 to 600: give an order in that range' 'order 601\n'
+broken '1: the order is outside 1 to 600: give an order in that range' 'order 0\n'
+broken '1: a whole number is missing' 'order\n'
+broken '1: not a whole number below 2^32: 4294967296' 'order 4294967296\n'
+broken '1: not a whole number below 2^32: -1' 'order -1\n'
+broken '1: the line should end before: 3' 'order 2 3\n'
+broken '2: the order is given twice' 'order 2\norder 2\n'
+broken '1: the order has to come first' 'place 1 1\n'
+broken '1: the order has to come first' 'values some\n'
+broken '3: a whole number is missing' 'order 2\n\nplace 1 1  2\n'
+broken '2: the table of order 2 has no place (3, 1)' 'order 2\nplace 3 1\n'
+broken '2: the table of order 2 has no label 5' 'order 2\nlabels 1 5\n'
+broken '2: not order, place, labels, values, right or expect: plase' 'order 2\nplase 1 1\n'
+broken '2: not order, place, labels, values, right or expect: 7' 'order 2\n7\n'
+broken '2: a right side belongs to values, and there are none yet' 'order 2\nright\n'
+broken '2: a refusal is expected of values, and there are none yet' 'order 2\nexpect 17\n'
+broken '2: the values have no name' 'order 1\nvalues # none\n'
+broken '4: not a number: 1,5' 'order 1\nplace 1 1\nvalues some\n1,5\nright\n1\n'
+broken '4: more than 1 numbers, from here on: 3' 'order 1\nplace 1 1\nvalues some\n2 3\nright\n1\n'
+broken '3: some has 0 coefficients, but the plan 1 places' 'order 1\nplace 1 1\nvalues some\nright\n1\n'
+broken '3: the right side of some has 0 numbers, but the order is 1' 'order 1\nplace 1 1\nvalues some\n2\nvalues other\n'
+broken '7: all places have to come before the first values' 'order 1\nplace 1 1\nvalues some\n2\nright\n1\nplace 1 1\n'
+broken '6: not order, place, labels, values, right or expect: 1' 'order 1\nplace 1 1\nvalues some\n2\nexpect 17\n1\n'
+broken '2: a zero byte: this is no text' 'order 1\n\0place 1 1\n'
+says 'examples/none.txt: No such file or directory' 1 $at/sheet examples/none.txt $at/none.crout
+
+echo 'tests/examples.sh: passed'
