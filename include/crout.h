@@ -21,25 +21,25 @@ extern "C" {
 /* The refusals, numbered as in document 01. The comment is the detail; where there is none, the detail is 0. */
 enum crout_refusal_number {
     CROUT_ORDER = 1,
-    CROUT_WORK_SHORT = 2,      /* the numbers needed, n * n */
-    CROUT_LABEL_RANGE = 3,     /* the label's position in the plan, from 1 */
-    CROUT_LABEL_TURN = 4,      /* the label's position in the plan, from 1 */
-    CROUT_PIVOT_MISSING = 5,   /* the smallest m whose pivot (m, m) is missing */
-    CROUT_WORDS_SHORT = 6,     /* the records; four words are needed for each */
+    CROUT_WORK_SHORT = 2,    /* the numbers needed, n * n */
+    CROUT_LABEL_RANGE = 3,   /* the label's position in the plan, from 1 */
+    CROUT_LABEL_TURN = 4,    /* the label's position in the plan, from 1 */
+    CROUT_PIVOT_MISSING = 5, /* the smallest m whose pivot (m, m) is missing */
+    CROUT_WORDS_SHORT = 6,   /* the records; each needs four words */
     CROUT_WORD_COUNT = 7,
     CROUT_HEAD = 8,
-    CROUT_NEXT = 9,            /* the record, as for 10, 11 and 12; 0 for the "first" of record 0 */
-    CROUT_KIND = 10,
-    CROUT_OPEN = 11,
-    CROUT_OPERAND = 12,
+    CROUT_NEXT = 9,          /* the record */
+    CROUT_KIND = 10,         /* the record */
+    CROUT_OPEN = 11,         /* the record */
+    CROUT_OPERAND = 12,      /* the record */
     CROUT_UNFINISHED = 13,
     CROUT_LENGTHS = 14,
-    CROUT_NOT_FINITE = 15,     /* the position in a, or if all of a is finite in b, from 1 */
-    CROUT_OVERFLOW = 16,       /* the record, as for 17 */
-    CROUT_ZERO = 17,
+    CROUT_NOT_FINITE = 15,   /* the position in a, or if all of a is finite in b, from 1 */
+    CROUT_OVERFLOW = 16,     /* the record */
+    CROUT_ZERO = 17,         /* the record */
     CROUT_FILE_BYTES = 18,
-    CROUT_OUTPUT_SHORT = 19,   /* the entries needed */
-    CROUT_LISTING_TEXT = 20    /* the listing program's alone: the byte's position in its input, from 1 */
+    CROUT_OUTPUT_SHORT = 19, /* the entries needed */
+    CROUT_LISTING_TEXT = 20  /* the listing program's alone: the position in its input, in bytes from 1 */
 };
 
 /* The refusal's number in what a call returned, 0 if it didn't refuse. */
