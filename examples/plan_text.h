@@ -4,7 +4,7 @@
        place 1 1  2 1              places that may be nonzero, each as row and column; any number to a line
        labels 4                    or by their labels; both may be mixed, in any order
        values NAME                 then any number of sets, each with a name of one word
-       2 4 4                       a coefficient for each place, in the order in which the text names the places
+       2 4 0                       a coefficient for each place, in the order in which the text names the places
        right
        4 12                        the right side, one number for each row
        expect 17                   only if the set is to be refused: by which number
