@@ -2,7 +2,7 @@
 -- accepts may count on.
 use Prim.Native.Nat.{ℕ, zero, suc}
 use mathlib.Core.Path.{_≡_, refl, sym, ap, ap₂, _∙_}
-use mathlib.Core.Bool.{Bool, true, false, cond}
+use mathlib.Core.Bool.{Bool, true, false, cond, true≢false}
 use mathlib.Core.List.{List, [], _∷_, List·Memᴰ·head, List·Memᴰ·tail}
 use lib.Dec.{eqb}
 use lib.ListN.{length}
@@ -11,13 +11,17 @@ use lib.Ieee.{Float, nan, inf, fin}
 use Rattle.model.specs.Release1 as R
 use Rattle.model.specs.Arith.{Answer, number, overflow, zeroDivisor, clean, settled, isZero, isFinite, product, difference, quotient, next}
 use Rattle.model.specs.Formula.{Table, C, Y, X, numberOf, Tables, entry, closed, starting, less}
-use Rattle.model.specs.Program.{rec}
+use Rattle.model.specs.Label.{isOrder}
+use Rattle.model.specs.Fill.{Plan, missing}
+use Rattle.model.specs.Program.{rec, compiled}
+use Rattle.model.specs.Compile.{judged, good}
 use Rattle.model.specs.Check.{word, nextOf, Chain, whole, broken, before, chainAfter, chain, Open, idle, busy, Progress, Verdict, fine, refusal}
 use Rattle.model.specs.Check.{Kind, opens, subtracts, divides, closes, closesPivot, none, kindOf, formed, inOrder, inTurn, counted, onward, isIdle, complete, checkLinks, check}
 use Rattle.model.specs.Run.{State, Stepped, going, stop, closing, settledStep, step, Outcome, solution, stopped, refusedBy, follow, notFinite, ran, Reply, solves, stops, refuses, reply, leaves}
 use Rattle.model.proofs.Lists.{Each}
 use Rattle.model.proofs.Runs.{ran-is, ranBy, gated, lengthsRight}
 use Rattle.model.proofs.Following.{ended, follows}
+use Rattle.model.proofs.Checked.{program-fine}
 
 -- ---- release 1's values as those of `specs/`
 
@@ -142,9 +146,9 @@ chain-after zero W k = by (eqb (nextOf W k) 0)
     by false = refl
 chain-after (suc d) W k = by (eqb (nextOf W k) 0) refl (follows W k (nextOf W k)) refl (chain-after d W (nextOf W k))
   where
-    by : (none : Bool) → eqb (nextOf W k) 0 ≡ none → (good : Bool) → follows W k (nextOf W k) ≡ good → chainNow (R.chainAfter d W (nextOf W k)) ≡ chainAfter d W (nextOf W k)
+    by : (none : Bool) → eqb (nextOf W k) 0 ≡ none → (leads : Bool) → follows W k (nextOf W k) ≡ leads → chainNow (R.chainAfter d W (nextOf W k)) ≡ chainAfter d W (nextOf W k)
         → chainNow (R.chainAfter (suc d) W k) ≡ chainAfter (suc d) W k
-    by true e good f rest = rw (R.chainAfter, chainAfter, e)
+    by true e leads f rest = rw (R.chainAfter, chainAfter, e)
     by false e true f rest = rw (R.chainAfter, chainAfter, e, f, chainNow, rest)
     by false e false f rest = rw (R.chainAfter, chainAfter, e, f)
 
@@ -384,3 +388,15 @@ accepted-means W A B lc ly lx passed f = rw (
   all-finite 1 A (f .finiteA),
   all-finite 1 B (f .finiteB),
 ) (follow-ends A B (R.fresh (R.word W 0)) (R.chain W))
+
+-- The programs that the compiler writes are accepted by release 1.
+pub program-accepted : (N : ℕ) (L : Plan) → isOrder N ≡ true → judged N 0 1 L ≡ good → missing N L ≡ 0 → R.check (compiled N L) ≡ R.fine
+program-accepted N L order labels pivots = passed (R.check (compiled N L)) (check-frozen (compiled N L) ∙ program-fine N L order labels pivots)
+  where
+    passes : Verdict → Bool
+    passes fine = true
+    passes (refusal r d) = false
+
+    passed : (v : R.Verdict) → verdictNow v ≡ fine → v ≡ R.fine
+    passed R.fine e = refl
+    passed (R.refusal r d) e = absurd (true≢false (sym (ap passes e)))
