@@ -31,7 +31,7 @@ test:
 	.ci/run
 
 bench: $(LIBRARY)
-	cargo run --offline --release --manifest-path bench/Cargo.toml
+	tests/cargo run --offline --release --manifest-path bench/Cargo.toml
 
 build/sheet build/spy: build/%: build/%.o $(SHARED) $(LIBRARY)
 	$(CC) $(LDFLAGS) $^ -o $@
