@@ -1,6 +1,6 @@
 //! The cases that are timed.
 
-use crout_tests::networks::Values;
+use crout_tests::networks::{self, Values};
 use crout_tests::random::Random;
 use crout_tests::reading::labels::label;
 
@@ -8,7 +8,7 @@ use crate::plain::compile::compile;
 
 /// A plan, its compiled program and values that have a solution.
 pub struct Case {
-    pub name: &'static str,
+    pub name: String,
     pub n: u32,
     pub plan: Vec<u32>,
     pub slots: usize,
@@ -19,7 +19,7 @@ pub struct Case {
 }
 
 impl Case {
-    pub fn new(name: &'static str, n: u32, plan: Vec<u32>) -> Self {
+    pub fn new(name: &str, n: u32, plan: Vec<u32>) -> Self {
         let random = &mut Random(1);
         let mut work = vec![0; (n * n) as usize];
         let (_, records) = compile(n, &plan, &mut work, &mut []).expect_err("no words are lent");
@@ -31,7 +31,7 @@ impl Case {
             a[pivot] += 10.0 * f64::from(n);
         }
         let b = Values::Moderate.row(n as usize, random);
-        Self { name, n, plan, slots: slots as usize, products, words, a, b }
+        Self { name: name.into(), n, plan, slots: slots as usize, products, words, a, b }
     }
 
     pub fn records(&self) -> usize {
@@ -40,5 +40,25 @@ impl Case {
 
     pub fn file(&self) -> Vec<u8> {
         self.words.iter().flat_map(|word| word.to_le_bytes()).collect()
+    }
+}
+
+/// The diagonal, and about four more places in each row: a plan that fills much, since its order is as it comes.
+pub fn random_sparse(n: u32) -> Vec<u32> {
+    networks::scattered(n, 1.0, 4.0 / f64::from(n - 1), &mut Random(1))
+}
+
+#[cfg(test)]
+mod tests {
+    use crout_tests::reading::plan::Held;
+
+    use super::*;
+
+    #[test]
+    fn a_random_sparse_plan_is_accepted() {
+        let plan = random_sparse(300);
+        assert_eq!(Held::of(300, &plan).missing(), None);
+        assert!((4 * 300..6 * 300).contains(&plan.len()), "{} places", plan.len());
+        assert_eq!(random_sparse(300), plan, "the same each time");
     }
 }

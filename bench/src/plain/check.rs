@@ -3,11 +3,12 @@
 use super::Refusal;
 
 pub fn check_file(file: &[u8]) -> Result<(), Refusal> {
-    if file.len() % 4 != 0 {
+    let words = file.len() / 4;
+    if file.len() != 4 * words {
         return Err((18, 0));
     }
     let word = |four: &[u8]| u32::from_le_bytes([four[0], four[1], four[2], four[3]]);
-    check(file.len() / 4, |at| {
+    check(words, |at| {
         let record = &file[16 * at..16 * at + 16];
         [word(&record[..4]), word(&record[4..8]), word(&record[8..12]), word(&record[12..])]
     })
@@ -32,7 +33,7 @@ enum Open {
 #[inline(always)]
 fn check(words: usize, record: impl Fn(usize) -> [u32; 4]) -> Result<(), Refusal> {
     let records = words / 4;
-    if words == 0 || words % 4 != 0 || records > 100_000_000 {
+    if words == 0 || words != 4 * records || records > 100_000_000 {
         return Err((7, 0));
     }
     let [n, plan, slots, first] = record(0);

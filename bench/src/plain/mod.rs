@@ -1,7 +1,10 @@
-//! The compiler, the checker and the runner as one would write them in plain Rust, with the same checks and operations.
+//! The compiler, the checker, the runner and the file's writer and reader as one would write them in plain Rust, with the same checks and
+//! operations; and dense Crout.
 
 pub mod check;
 pub mod compile;
+pub mod dense;
+pub mod file;
 pub mod run;
 #[cfg(test)]
 mod tests;

@@ -1,10 +1,13 @@
 //! The plain ones do what the reading does, refusals as well.
 
+use std::collections::BTreeSet;
+
 use crout_tests::networks::{self, VALUES};
 use crout_tests::random::Random;
+use crout_tests::reading::dense::At;
 use crout_tests::{programs, reading};
 
-use super::{check, compile, run};
+use super::{check, compile, dense, file, run};
 
 #[test]
 fn the_same_compiler() {
@@ -52,6 +55,23 @@ fn the_same_checker() {
     }
 }
 
+#[test]
+fn the_same_file() {
+    let random = &mut Random(4);
+    for _ in 0..3000 {
+        let words: Vec<u32> = (0..random.below(50)).map(|_| random.next() as u32).collect();
+        // from a little too short to a little too long
+        let mut bytes = vec![7; (4 * words.len() + random.below(9)).saturating_sub(3)];
+        let mut read_bytes = bytes.clone();
+        assert_eq!(file::write(&words, &mut bytes), reading::file::write(&words, &mut read_bytes));
+        assert_eq!(bytes, read_bytes);
+        let mut back = vec![7; (words.len() + random.below(5)).saturating_sub(2)];
+        let mut read_back = back.clone();
+        assert_eq!(file::read(&bytes, &mut back), reading::file::read(&bytes, &mut read_back));
+        assert_eq!(back, read_back);
+    }
+}
+
 fn bits(tables: &[Vec<f64>; 3]) -> Vec<u64> {
     tables.iter().flatten().map(|value| value.to_bits()).collect()
 }
@@ -82,4 +102,44 @@ fn the_same_runner() {
         assert_eq!(answer, outcome(reading::run::run(&words, &a, &b, c, y, x)), "{words:?} {a:?} {b:?}");
         assert_eq!(bits(&tables), bits(&read_tables), "{words:?} {a:?} {b:?}");
     }
+}
+
+/// The rows of dense Crout's table and x as the reading has them: l and u by label, y and x.
+fn as_read(n: u32, table: &[f64], x: Vec<f64>) -> [Vec<f64>; 3] {
+    let entry = |i: u32, j: u32| table[((i - 1) * (n + 1) + j - 1) as usize];
+    let places = reading::labels::places(n);
+    [places.into_iter().map(|(i, j)| entry(i, j)).collect(), (1..=n).map(|m| entry(m, n + 1)).collect(), x]
+}
+
+#[test]
+fn the_same_dense_crout() {
+    let random = &mut Random(5);
+    let mut met = BTreeSet::new();
+    for (n, plan) in networks::plans(5, 6000) {
+        let values = VALUES[random.below(VALUES.len())];
+        let (a, b) = (values.coefficients(n, &plan, random), values.row(n as usize, random));
+        let dense = dense::Dense::new(n, &plan);
+        // it may hold anything before
+        let (mut table, mut x) = (dense.table(), vec![7.0; n as usize]);
+        table.fill(7.0);
+        let ended = dense.solve(&a, &b, &mut table, &mut x);
+        match reading::dense::dense(n, &plan, &a, &b) {
+            Ok(read) => {
+                assert_eq!(ended, Ok(()), "order {n}, {plan:?} {a:?} {b:?}");
+                assert_eq!(bits(&as_read(n, &table, x)), bits(&[read.table, read.y, read.x]), "order {n}, {plan:?} {a:?} {b:?}");
+                met.insert("solution");
+            }
+            Err(read) => {
+                assert_eq!(ended, Err(read), "order {n}, {plan:?} {a:?} {b:?}");
+                met.insert(match read {
+                    (17, _) => "17",
+                    (_, At::Place(i, j)) if i >= j => "16 in l",
+                    (_, At::Place(..)) => "16 in u",
+                    (_, At::Y(_)) => "16 in y",
+                    (_, At::X(_)) => "16 in x",
+                });
+            }
+        }
+    }
+    assert_eq!(met.len(), 6, "only {met:?}");
 }
