@@ -64,14 +64,14 @@ pub fn csv(points: &[Point]) -> String {
     csv
 }
 
-/// A line for each network, and one for dense Crout, whose time is the same for all plans of an order: those of the first network.
+/// A line for each network, and one for dense Crout. Any plan of an order takes it the same time: the first network's.
 pub fn lines(points: &[Point]) -> Vec<Line> {
     let line = |name: String, network: &str, time: fn(&Point) -> Duration| {
         let of_network = points.iter().filter(|point| point.network == network);
         Line { name, points: of_network.map(|point| (point.order.into(), micros(time(point)))).collect() }
     };
     let mut lines: Vec<Line> =
-        NETWORKS.iter().map(|network| line(format!("run, {network}"), network, |point| point.ours)).collect();
+        NETWORKS.iter().map(|network| line(format!("crout_run, {network}"), network, |point| point.ours)).collect();
     lines.push(line("dense Crout, any network".into(), NETWORKS[0], |point| point.dense));
     lines
 }

@@ -16,6 +16,9 @@ const STYLES: [(&str, &str); 4] = [
     ("#000000", "M0,-6.2L6.2,0L0,6.2L-6.2,0z"),
 ];
 
+/// The powers of ten in microseconds, from -1 on.
+const DECADES: [&str; 9] = ["100 ns", "1 µs", "10 µs", "100 µs", "1 ms", "10 ms", "100 ms", "1 s", "10 s"];
+
 const WIDTH: f64 = 820.0;
 const HEIGHT: f64 = 560.0;
 const LEFT: f64 = 92.0;
@@ -51,7 +54,7 @@ fn axes(lines: &[Line]) -> [Axis; 2] {
     let points = || lines.iter().flat_map(|line| &line.points);
     let [least, most] = ends(points().map(|point| point.0));
     let [short, long] = ends(points().map(|point| point.1));
-    let decades = [short.log10().floor(), long.log10().ceil()].map(|power| 10f64.powf(power));
+    let decades = [short.log10().floor(), long.log10().ceil()].map(|power| 10f64.powi(power as i32));
     [Axis { values: [least / 1.15, most * 1.15], places: [LEFT, RIGHT] }, Axis { values: decades, places: [BOTTOM, TOP] }]
 }
 
@@ -68,7 +71,7 @@ pub fn svg(lines: &[Line], machine: &str) -> String {
     frame(&mut svg, &axes);
     for (at, (line, style)) in lines.iter().zip(STYLES).enumerate() {
         draw(&mut svg, &axes, line, style);
-        legend(&mut svg, TOP + 28.0 + 26.0 * at as f64, &line.name, style);
+        legend(&mut svg, TOP + 16.0 + 26.0 * at as f64, &line.name, style);
     }
     svg + "</svg>\n"
 }
@@ -91,18 +94,16 @@ fn frame(svg: &mut String, [order, time]: &[Axis; 2]) {
             text(svg, [x, BOTTOM + 22.0], "text-anchor=\"middle\"", &tick.to_string());
         }
     }
-    let decades = (0..8)
-        .map(|power| (10f64.powi(power), ["1 µs", "10 µs", "100 µs", "1 ms", "10 ms", "100 ms", "1 s", "10 s"][power as usize]));
-    for (tick, name) in decades.filter(|&(tick, _)| time.holds(tick)) {
-        let y = time.at(tick);
+    for (power, name) in (-1..).zip(DECADES).filter(|&(power, _)| time.holds(10f64.powi(power))) {
+        let y = time.at(10f64.powi(power));
         path(svg, &format!("M{LEFT},{y:.1}H{RIGHT}"), grid);
         text(svg, [LEFT - 10.0, y + 5.0], "text-anchor=\"end\"", name);
     }
     path(svg, &format!("M{LEFT},{TOP}V{BOTTOM}H{RIGHT}"), "stroke=\"#222\" fill=\"none\"");
-    text(svg, [(LEFT + RIGHT) / 2.0, BOTTOM + 50.0], "text-anchor=\"middle\"", "order N (unknowns), logarithmic");
+    text(svg, [(LEFT + RIGHT) / 2.0, BOTTOM + 50.0], "text-anchor=\"middle\"", "order N (number of unknowns), log scale");
     let middle = (TOP + BOTTOM) / 2.0;
     let turned = format!("text-anchor=\"middle\" transform=\"rotate(-90 22 {middle})\"");
-    text(svg, [22.0, middle], &turned, "time, logarithmic");
+    text(svg, [22.0, middle], &turned, "time in µs, ms or s, log scale");
 }
 
 fn draw(svg: &mut String, [order, time]: &[Axis; 2], line: &Line, style: (&str, &str)) {
@@ -118,7 +119,9 @@ fn mark(svg: &mut String, [x, y]: [f64; 2], (colour, marker): (&str, &str)) {
 
 /// A line's style and name, at the left where small orders leave room above the lines.
 fn legend(svg: &mut String, y: f64, name: &str, style: (&str, &str)) {
-    let x = LEFT + 24.0;
+    let x = LEFT + 16.0;
+    // over the grid
+    path(svg, &format!("M{x},{}h264v26h-264z", y - 13.0), "fill=\"#fff\"");
     path(svg, &format!("M{x},{y}h40"), &format!("stroke=\"{}\" stroke-width=\"2\"", style.0));
     mark(svg, [x + 20.0, y], style);
     text(svg, [x + 52.0, y + 5.0], "", name);

@@ -1,5 +1,5 @@
-//! The compiler, the checker, the runner and the file's writer and reader as one would write them in plain Rust, with the same checks and
-//! operations; and dense Crout.
+//! The compiler, the checker, the runner and the file's writer and reader as one would write them in plain Rust, with the same
+//! checks and operations; and dense Crout.
 
 pub mod check;
 pub mod compile;
