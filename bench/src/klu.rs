@@ -1,5 +1,5 @@
-//! KLU's refactor and solve. KLU has chosen another order of rows and columns, one with less fill, and the coefficients already stand
-//! by columns; neither is timed.
+//! KLU's refactor and solve. KLU has chosen another order of rows and columns, one with less fill, and the coefficients already
+//! stand by columns; neither is timed.
 
 use std::ffi::{c_int, c_void};
 use std::ptr::null_mut;

@@ -1,6 +1,6 @@
 //! The exported functions beside plain Rust: a line for each case with the best times in microseconds, their ratio, and the
-//! nanoseconds for each record (and, for a run, each product), ours first. Beside a run stand dense Crout and, where it is installed,
-//! KLU. The callers take turns, and what they may write is cleared before each timing.
+//! nanoseconds for each record (and, for a run, each product), ours first. Beside a run stand dense Crout and, where it is
+//! installed, KLU. The callers take turns, and what they may write is cleared before each timing.
 //!
 //! The last table has the time of a run against the order. `--csv FILE` and `--plot FILE` write it as CSV and as a picture; with
 //! `growth` nothing else is measured.

@@ -18,8 +18,8 @@ pub fn caller<'a, S, R>(lent: &'a RefCell<S>, clear: fn(&mut S), call: impl Fn(&
     })
 }
 
-/// The best time of each caller: at least seven turns each, and at least half a second. A turn is calls for a millisecond, so that
-/// a short call beside a long one is made more often.
+/// The best time of each caller: at least seven turns each, and at least half a second. A turn is calls for a millisecond, so
+/// that a short call beside a long one is made more often.
 pub fn race<const K: usize>(callers: [Caller; K]) -> [Duration; K] {
     let mut best = [Duration::MAX; K];
     let begun = Instant::now();

@@ -1,8 +1,8 @@
-//! Dense Crout on the full table, which knows nothing of fill. The table stands row by row, and a row has y as one entry more: y(m)
-//! has the formula of a u in column n + 1.
+//! Dense Crout on the full table, which knows nothing of fill. The table stands row by row, and a row has y as one entry more:
+//! y(m) has the formula of a u in column n + 1.
 //!
-//! A panel is a few m. After each panel its products are taken from all places that come later, so that every formula still subtracts
-//! its products with h rising. A formula is tested for 16 once, at its end: what isn't finite stays so.
+//! A panel is a few m. After each panel its products are taken from all places that come later, so that every formula still
+//! subtracts its products with h rising. A formula is tested for 16 once, at its end: what isn't finite stays so.
 
 use std::array;
 
