@@ -54,6 +54,11 @@ for name in sheet spy; do
     gcc -std=c11 "${strict[@]}" examples/$name.c examples/plan.c examples/plan_text.c examples/basics.c $library -o $at/$name
 done
 
+# the program in the README
+sed -n '/^```c$/,/^```$/p' README.md | sed '1d;$d' >$at/small.c
+gcc -std=c99 "${strict[@]}" $at/small.c $library -o $at/small
+says 'x = 1 2, 3 products' 0 $at/small
+
 # sheet: the published systems, then plans that are refused and every ending of a set
 same tests/examples/document002.out 0 $at/sheet examples/document002.txt $at/document002.crout
 same tests/examples/heating.out 0 $at/sheet examples/heating.txt $at/heating.crout
