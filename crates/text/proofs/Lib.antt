@@ -1,0 +1,6 @@
+-- The laws that the proofs of `text` share.
+pub mod Bytes
+pub mod Numbers
+pub mod Steps
+pub mod Digits
+pub mod Places

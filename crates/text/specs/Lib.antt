@@ -1,0 +1,3 @@
+-- What the contracts of `text` cite.
+pub mod Readings
+pub mod Lines
