@@ -14,8 +14,8 @@ use Rattle.model.proofs.Within.{within-range}
 use Rattle.model.proofs.Bounds.{records-at-most}
 use Rattle.model.proofs.WorkNumbers.{slot-numbers-length}
 use Rattle.model.proofs.Compiles.{Ends, ends-pivot, ends-words, ends-done}
-use Rattle.compiler.specs.Walked.{AllHeld, PivotMissing}
-use Rattle.compiler.specs.Prepared.{Prepared}
+use Rattle.slots.specs.Walked.{AllHeld, PivotMissing}
+use Rattle.writer.specs.Prepared.{Prepared}
 
 -- document 01's sum
 abbrev recordsOf : ℕ → ℕ → ℕ → ℕ → ℕ

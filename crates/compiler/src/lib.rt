@@ -1,12 +1,9 @@
 // The compiler: document 01, "Fill and slots", "Records" and checks 1 to 6.
 mod checks;
-mod fill;
-mod lines;
-mod write;
 
 use checks::Judged;
-use fill::Filled;
-use lines::wide;
+use slots::Filled;
+use slots::lines::wide;
 ghost use mathlib.Core.Path.{_≡_};
 ghost use mathlib.Core.Bool.{true};
 ghost use Prim.Native.Nat.{_+_, _*_, _≤_};
@@ -64,7 +61,7 @@ fn compile_good(n: u32, plan: &[u32], work: &mut [u32], words: &mut [u32]) -> Co
 {
     let mut rows = [601u32; 601];
     let mut columns = [601u32; 601];
-    match fill::fill(n, plan, work, &mut rows, &mut columns) {
+    match slots::fill(n, plan, work, &mut rows, &mut columns) {
         Filled::Missing(m) => {
             checks::clear(work, wide(n * n));
             Compilation::Refused {
@@ -84,7 +81,7 @@ fn compile_good(n: u32, plan: &[u32], work: &mut [u32], words: &mut [u32]) -> Co
                     detail: records as u64,
                 };
             }
-            write::write(n, plan, work, &rows, &columns, words, slots);
+            writer::write(n, plan, work, &rows, &columns, words, slots);
             Compilation::Written {
                 slots,
                 products,

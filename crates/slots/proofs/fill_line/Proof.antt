@@ -1,0 +1,207 @@
+-- `fill::fill_line` settles the places of a line. The invariant along it: the places before the t-th are done; of the search: no h before the present one
+-- gives a pair. The measures are what is left of the line, and of the search.
+use Prim.Native.Nat.{suc, _-_, _<_}
+use native.Mathlib.Numerals.{add-one}
+use native.Mathlib.Omega.{arith}
+use mathlib.Core.Path.{_≡_, sym, _∙_}
+use mathlib.Core.Logic.{⊎-elim}
+use borrow.Author.Needs.{needs}
+use borrow.Author.Tests.{ltb-true}
+use Rattle.model.specs.Fill.{held}
+use Rattle.slots.proofs.Here.{Here, here, bounds}
+use Rattle.slots.proofs.Search.{Searching, left-inside, right-inside, start-low, search-start, indices, search-found, search-onward, search-ended}
+use Rattle.slots.proofs.Along.{Along, along-start, along-next, along-end, checked-again}
+use Rattle.slots.proofs.fill_line.Statement.{statement}
+use Rattle.slots.proofs.fill_line.Tie as tie
+
+abbrev Inv-loop2 : tie.InvT-loop2
+Inv-loop2 n plan work rows columns m across walk t i j planned h₀ low₀ high₀ h low high = Searching n plan m i j planned h low high
+
+abbrev μ-loop2 : tie.MeasureT-loop2
+μ-loop2 n plan work rows columns m across walk t i j planned h₀ low₀ high₀ h low high = m - h
+
+abbrev Inv-loop : tie.InvT-loop
+Inv-loop n plan work₀ rows₀ columns₀ m across walk₀ t₀ work rows columns walk t = Along n plan work₀ across m t walk work rows columns
+
+abbrev μ-loop : tie.MeasureT-loop
+μ-loop n plan work₀ rows₀ columns₀ m across walk₀ t₀ work rows columns walk t = suc n - t
+
+-- Places of the code: where a turn stands at its place, with the entry and the line's head before it; that of a search; and the search that a turn ends with.
+abbrev Turn : Type 0
+Turn = tie.After-column-of Inv-loop2 μ-loop2 Inv-loop μ-loop
+
+abbrev entry : Turn → tie.Start Inv-loop2 μ-loop2 Inv-loop μ-loop
+entry c = c .before .before .before .before .before .before .before .before .before
+
+abbrev head : Turn → tie.At-loop Inv-loop2 μ-loop2 Inv-loop μ-loop
+head c = c .before .before .before
+
+abbrev turn : tie.At-loop2 Inv-loop2 μ-loop2 Inv-loop μ-loop → Turn
+turn c = c .before .before .before .before .before .before .before
+
+abbrev asked : tie.At-loop2 Inv-loop2 μ-loop2 Inv-loop μ-loop → tie.After-is-next Inv-loop2 μ-loop2 Inv-loop μ-loop
+asked c = c .before .before .before .before .before .before
+
+abbrev searched : tie.After-slice-known6 Inv-loop2 μ-loop2 Inv-loop μ-loop → tie.Joined1 Inv-loop2 μ-loop2 Inv-loop μ-loop
+searched c = c .before .before .before .before .before .before .before .before .before .before
+
+first-of-requires : tie.Need-first-of-requires Inv-loop2 μ-loop2 Inv-loop μ-loop
+first-of-requires c κs = omega (arith, c .before .before .before .before .pre)
+
+loop-holds : tie.Need-loop-holds Inv-loop2 μ-loop2 Inv-loop μ-loop
+loop-holds c = let p = c .before .before .before .before .before .pre in along-start _ (c .first-of .ensures) (p .1 .1) (p .1 .2)
+
+row-of-requires : tie.Need-row-of-requires Inv-loop2 μ-loop2 Inv-loop μ-loop
+row-of-requires c κs = search needs
+
+column-of-requires : tie.Need-column-of-requires Inv-loop2 μ-loop2 Inv-loop μ-loop
+column-of-requires c κs = search needs
+
+-- the place of a turn
+at-place : (c : Turn) → let a = entry c .args in let l = head c .loop in
+    Here (a .n) (a .plan .now) (a .m) (c .before .row-of .result) (c .column-of .result) (l .walk) (l .work) (l .rows) (l .columns)
+at-place c =
+    let p = entry c .pre in
+    let l = head c .loop .inv in
+    here _ _ (checked-again (p .0) (l .size)) (p .1 .0) (p .1 .1) (l .from) (c .before .before .loop-test .taken) (l .reached) (c .before .row-of .ensures) (c .column-of .ensures)
+
+is-next-requires : tie.Need-is-next-requires Inv-loop2 μ-loop2 Inv-loop μ-loop
+is-next-requires c κs = omega (arith, bounds (at-place c))
+
+search-from-requires : tie.Need-search-from-requires Inv-loop2 μ-loop2 Inv-loop μ-loop
+search-from-requires c κs = let b = bounds (at-place (c .before .before .before)) in (b .4, b .5)
+
+index-of-requires : tie.Need-index-of-requires Inv-loop2 μ-loop2 Inv-loop μ-loop
+index-of-requires c κs =
+    let at = at-place (c .before .before .before .before) in
+    let order = at .checked in
+    ((order .low, order .high), λ w. omega (arith, left-inside at _ (start-low at (c .before .before .before .is-next .result) _ (c .search-from .ensures)) (ltb-true _ _ w) .0))
+
+index-of-requires-2 : tie.Need-index-of-requires-2 Inv-loop2 μ-loop2 Inv-loop μ-loop
+index-of-requires-2 c κs =
+    let at = at-place (c .before .before .before .before .before) in
+    let order = at .checked in
+    ((order .low, order .high), λ w. omega (arith, right-inside at _ (start-low at (c .before .before .before .before .is-next .result) _ (c .before .search-from .ensures)) (ltb-true _ _ w) .0))
+
+loop2-holds : tie.Need-loop2-holds Inv-loop2 μ-loop2 Inv-loop μ-loop
+loop2-holds c = search-start (at-place (c .before .before .before .before .before .before)) _ _ _ _ (c .before .before .search-from .ensures) (c .before .index-of .ensures) (c .index-of2 .ensures)
+
+both-used-requires : tie.Need-both-used-requires Inv-loop2 μ-loop2 Inv-loop μ-loop
+both-used-requires c κs =
+    let l = c .before .before in
+    let i = indices (at-place (turn l)) (l .loop2 .inv) (c .before .if1 .left) in
+    (i .0, i .1)
+
+-- the numbers of a turn of the search
+in-search : (c : tie.Else2 Inv-loop2 μ-loop2 Inv-loop μ-loop) → let l = c .before .before .before .before in
+    (l .loop2 .h < entry (turn l) .args .n) × (l .loop2 .h < 600) × (l .loop2 .low < 360000) × (l .loop2 .high < 360000)
+in-search c =
+    let l = c .before .before .before .before in
+    let at = at-place (turn l) in
+    omega (arith, indices at (l .loop2 .inv) (c .before .before .before .if1 .left), at .batch, at .inside, at .checked, c .before .before .before .if1)
+
+sub-wide : tie.Need-sub-wide Inv-loop2 μ-loop2 Inv-loop μ-loop
+sub-wide c = omega (arith, in-search c)
+
+wide-requires : tie.Need-wide-requires Inv-loop2 μ-loop2 Inv-loop μ-loop
+wide-requires c κs = search needs
+
+add-low : tie.Need-add-low Inv-loop2 μ-loop2 Inv-loop μ-loop
+add-low c = omega (arith, in-search (c .before), c .wide .ensures)
+
+add-low-2 : tie.Need-add-low-2 Inv-loop2 μ-loop2 Inv-loop μ-loop
+add-low-2 c = omega (arith, in-search (c .before), c .wide .ensures)
+
+add-high : tie.Need-add-high Inv-loop2 μ-loop2 Inv-loop μ-loop
+add-high c = omega (arith, in-search (c .before), c .wide .ensures)
+
+sub-high : tie.Need-sub-high Inv-loop2 μ-loop2 Inv-loop μ-loop
+sub-high c = omega (arith, in-search (c .before), c .wide .ensures)
+
+add-high-2 : tie.Need-add-high-2 Inv-loop2 μ-loop2 Inv-loop μ-loop
+add-high-2 c = omega (arith, in-search (c .before), c .wide .ensures)
+
+add-h : tie.Need-add-h Inv-loop2 μ-loop2 Inv-loop μ-loop
+add-h c = omega (arith, in-search (c .before), c .wide .ensures)
+
+loop2-less : tie.Need-loop2-less Inv-loop2 μ-loop2 Inv-loop μ-loop
+loop2-less c = omega (arith, c .before .before .before .before .if1 .left)
+
+loop2-again : tie.Need-loop2-again Inv-loop2 μ-loop2 Inv-loop μ-loop
+loop2-again c =
+    let l = c .before .before .before .before .before in
+    rw add-one (search-onward (at-place (turn l)) (l .loop2 .inv) (c .before .before .before .before .if1 .left) _ (c .before .before .both-used .ensures) (c .before .if2 .left) (c .wide .ensures))
+
+-- the search answers whether the place is held
+found : (c : tie.Joined1 Inv-loop2 μ-loop2 Inv-loop μ-loop) → let t = turn (c .before) in let a = entry t .args in c .if1 .held ≡ held (a .n) (a .plan .now) (t .before .row-of .result) (t .column-of .result)
+found c =
+    let at = at-place (turn (c .before)) in
+    let s = c .before .loop2 .inv in
+    ⊎-elim (λ w. w .1 ∙ search-ended at s (asked (c .before) .is-next .ensures) (w .0 .taken)) (λ w. w .4 ∙ search-found at s (w .0 .left) (w .2 .ensures) (w .3 .taken)) (c .if1 .came)
+
+settle-requires : tie.Need-settle-requires Inv-loop2 μ-loop2 Inv-loop μ-loop
+settle-requires c κs =
+    let b = bounds (at-place (turn (c .before .before .before .before))) in
+    ((omega arith, b .1, omega arith, omega arith), (b .4, b .5))
+
+add-t : tie.Need-add-t Inv-loop2 μ-loop2 Inv-loop μ-loop
+add-t c = let t = turn (searched c .before) in omega (arith, t .before .before .loop-test .taken, entry t .pre)
+
+loop-less : tie.Need-loop-less Inv-loop2 μ-loop2 Inv-loop μ-loop
+loop-less c = omega (arith, turn (searched c .before) .before .before .loop-test .taken)
+
+loop-again : tie.Need-loop-again Inv-loop2 μ-loop2 Inv-loop μ-loop
+loop-again c =
+    let s = searched c in
+    let t = turn (s .before) in
+    rw add-one
+    (along-next (head t .loop .inv) (t .before .before .loop-test .taken) (at-place t) (asked (s .before) .is-next .ensures) (found s) (c .before .before .before .before .before .before .settle .ensures))
+
+same-length : tie.Need-same-length Inv-loop2 μ-loop2 Inv-loop μ-loop
+same-length c = c .before .loop .inv .size
+
+same-length-2 : tie.Need-same-length-2 Inv-loop2 μ-loop2 Inv-loop μ-loop
+same-length-2 c = c .before .loop .inv .reached .walked .row-count ∙ sym (c .before .before .before .before .before .before .before .pre .1 .2 .walked .row-count)
+
+same-length-3 : tie.Need-same-length-3 Inv-loop2 μ-loop2 Inv-loop μ-loop
+same-length-3 c = c .before .loop .inv .reached .walked .column-count ∙ sym (c .before .before .before .before .before .before .before .pre .1 .2 .walked .column-count)
+
+returns : tie.Need-returns Inv-loop2 μ-loop2 Inv-loop μ-loop
+returns c = along-end (c .before .loop .inv) (c .loop-test .left)
+
+pub fill-line-spec : {M : Type 1} → statement M
+fill-line-spec =
+    tie.close
+    (tie.spec
+    Inv-loop2
+    μ-loop2
+    Inv-loop
+    μ-loop
+    first-of-requires
+    loop-holds
+    row-of-requires
+    column-of-requires
+    is-next-requires
+    search-from-requires
+    index-of-requires
+    index-of-requires-2
+    loop2-holds
+    both-used-requires
+    sub-wide
+    wide-requires
+    add-low
+    add-low-2
+    add-high
+    sub-high
+    add-high-2
+    add-h
+    loop2-less
+    loop2-again
+    settle-requires
+    add-t
+    loop-less
+    loop-again
+    same-length
+    same-length-2
+    same-length-3
+    returns)

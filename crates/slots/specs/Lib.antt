@@ -1,0 +1,4 @@
+-- What the contracts of the slot pass cite.
+pub mod Skips
+pub mod Batch
+pub mod Walked

@@ -1,0 +1,82 @@
+-- `write::put` sets the four words of one record.
+use borrow.Author.Needs.{needs}
+use native.Mathlib.Omega.{arith}
+use Prim.Native.Nat.{_*_}
+use mathlib.Core.Path.{ap}
+use lib.ListN.{length-set}
+use Rattle.writer.proofs.Written.{wrote-one}
+use Rattle.writer.proofs.put.Statement.{statement}
+use Rattle.writer.proofs.put.Tie as tie
+
+sub-wide : tie.Need-sub-wide
+sub-wide c = search needs
+
+wide-requires : tie.Need-wide-requires
+wide-requires c κs = search needs
+
+mul-at : tie.Need-mul-at
+mul-at c = search needs
+
+add-next : tie.Need-add-next
+add-next c = search needs
+
+mul-words : tie.Need-mul-words
+mul-words c = search needs
+
+slice-write-words : tie.Need-slice-write-words
+slice-write-words c = search needs
+
+add-words : tie.Need-add-words
+add-words c = search needs
+
+mul-words-2 : tie.Need-mul-words-2
+mul-words-2 c = search needs
+
+slice-write-words-2 : tie.Need-slice-write-words-2
+slice-write-words-2 c = simp length-set (omega arith)
+
+add-words-2 : tie.Need-add-words-2
+add-words-2 c = search needs
+
+mul-words-3 : tie.Need-mul-words-3
+mul-words-3 c = search needs
+
+slice-write-words-3 : tie.Need-slice-write-words-3
+slice-write-words-3 c = simp length-set (omega arith)
+
+add-words-3 : tie.Need-add-words-3
+add-words-3 c = search needs
+
+mul-words-4 : tie.Need-mul-words-4
+mul-words-4 c = search needs
+
+slice-write-words-4 : tie.Need-slice-write-words-4
+slice-write-words-4 c = simp length-set (omega arith)
+
+same-length : tie.Need-same-length
+same-length c = search needs
+
+returns : tie.Need-returns
+returns c = wrote-one _ _ _ _ _ _ (c .before .before .pre) _ (ap (_*_ 4) (c .wide .ensures))
+
+pub put-spec : {M : Type 1} → statement M
+put-spec =
+    tie.close
+    (tie.spec
+    sub-wide
+    wide-requires
+    mul-at
+    add-next
+    mul-words
+    slice-write-words
+    add-words
+    mul-words-2
+    slice-write-words-2
+    add-words-2
+    mul-words-3
+    slice-write-words-3
+    add-words-3
+    mul-words-4
+    slice-write-words-4
+    same-length
+    returns)

@@ -1,0 +1,53 @@
+-- `write::write_batches` writes the batches. The invariant: those from m on are left to write. The measure is how many are left.
+use Prim.Native.Nat.{suc, _-_}
+use native.Mathlib.Numerals.{add-one}
+use native.Mathlib.Omega.{arith}
+use mathlib.Core.Path.{sym}
+use Rattle.model.proofs.Labels.{label-first}
+use Rattle.model.proofs.Pointer.{passed-none}
+use Rattle.writer.specs.Line.{Before, batchAt}
+use Rattle.writer.proofs.Products.{Rising, rising-starts, rising-room, rising-more, rising-ends}
+use Rattle.writer.proofs.Written.{wrote-length}
+use Rattle.writer.proofs.write_batches.Statement.{statement}
+use Rattle.writer.proofs.write_batches.Tie as tie
+
+abbrev Inv-loop : tie.InvT-loop
+Inv-loop n plan work rows columns words₀ at₀ m₀ words at m = Rising (batchAt n plan work) 1 0 1 (suc n) words₀ (at .next) m words × Before n plan m m at
+
+abbrev μ-loop : tie.MeasureT-loop
+μ-loop n plan work rows columns words₀ at₀ m₀ words at m = suc n - m
+
+loop-holds : tie.Need-loop-holds Inv-loop μ-loop
+loop-holds c = (rising-starts _ _ _ _ _ _ (c .before .before .before .before .before .pre .1), record { here = sym (label-first _); passed = sym (passed-none _ _ (c .before .before .before .before .before .pre .0 .rises)) })
+
+write-batch-requires : tie.Need-write-batch-requires Inv-loop μ-loop
+write-batch-requires c κs = ((c .before .before .before .before .before .before .before .before .pre .0), (omega arith, (c .before .before .loop .inv .1, rising-room _ _ _ _ _ _ _ _ _ (c .before .before .loop .inv .0) (omega arith))))
+
+add-m : tie.Need-add-m Inv-loop μ-loop
+add-m c = omega arith
+
+loop-less : tie.Need-loop-less Inv-loop μ-loop
+loop-less c = omega arith
+
+loop-again : tie.Need-loop-again Inv-loop μ-loop
+loop-again c = (rising-more _ _ _ _ _ _ _ _ _ (c .before .before .before .before .before .loop .inv .0) _ _ (omega arith) (c .before .before .write-batch .ensures .0), rw add-one (c .before .before .write-batch .ensures .1))
+
+returns : tie.Need-returns Inv-loop μ-loop
+returns c = rising-ends _ _ _ _ _ _ _ _ _ (c .before .loop .inv .0) (omega arith)
+
+same-length : tie.Need-same-length Inv-loop μ-loop
+same-length c = wrote-length _ _ _ _ _ _ (c .before .before .before .before .before .before .before .pre .1) (returns c)
+
+pub write-batches-spec : {M : Type 1} → statement M
+write-batches-spec =
+    tie.close
+    (tie.spec
+    Inv-loop
+    μ-loop
+    loop-holds
+    write-batch-requires
+    add-m
+    loop-less
+    loop-again
+    same-length
+    returns)

@@ -1,0 +1,134 @@
+-- `write::write_inner` writes the products of place (i, j). The invariant: those from h on are left to write, and across and down are the labels of
+-- (i, h) and (h, j). The measure is how many h are left.
+use Prim.Native.Nat.{_<_, _-_, min}
+use native.Mathlib.Omega.{arith}
+use mathlib.Core.Path.{_≡_, _∙_}
+use borrow.Author.Needs.{needs}
+use denote.Ref.{now}
+use Rattle.model.specs.Label.{label}
+use Rattle.writer.specs.Worked.{innerAt}
+use Rattle.writer.proofs.Products.{label-answered, Stands, stands, inner-at, label-across, label-downward, Rising, rising-skips, rising-room, rising-more, rising-ends}
+use Rattle.writer.proofs.Written.{wrote-length}
+use Rattle.writer.proofs.write_inner.Statement.{statement}
+use Rattle.writer.proofs.write_inner.Tie as tie
+
+abbrev Inv-loop : tie.InvT-loop
+Inv-loop n work rest₀ first k i j from end next₀ h₀ across₀ down₀ rest next h across down = (end ≡ min i j) × Rising (innerAt n work i j) 1 first k (min i j) rest₀ next h rest × (h < end → across ≡ label n i h) × (h < end → down ≡ label n h j)
+
+abbrev μ-loop : tie.MeasureT-loop
+μ-loop n work rest₀ first k i j from end next₀ h₀ across₀ down₀ rest next h across down = end - h
+
+earlier-requires : tie.Need-earlier-requires Inv-loop μ-loop
+earlier-requires c κs = search needs
+
+later-requires : tie.Need-later-requires Inv-loop μ-loop
+later-requires c κs = search needs
+
+label-requires : tie.Need-label-requires Inv-loop μ-loop
+label-requires c κs = search needs
+
+wide-requires : tie.Need-wide-requires Inv-loop μ-loop
+wide-requires c κs = search needs
+
+label-requires-2 : tie.Need-label-requires-2 Inv-loop μ-loop
+label-requires-2 c κs = search needs
+
+wide-requires-2 : tie.Need-wide-requires-2 Inv-loop μ-loop
+wide-requires-2 c κs = search needs
+
+loop-holds : tie.Need-loop-holds Inv-loop μ-loop
+loop-holds c = (c .before .before .before .before .before .earlier .ensures, rw (c .before .before .before .before .later .ensures) (rising-skips _ _ _ _ _ _ (c .before .before .before .before .before .before .before .before .pre .1 .1 .0) (c .before .before .before .before .before .before .before .before .pre .1 .1 .1)), (λ below. c .before .before .wide .ensures ∙ (c .before .before .before .label .ensures ∙ label-answered _ _ _ _ (c .before .before .before .before .before .before .before .before .pre .0) (omega arith))), λ below. c .wide2 .ensures ∙ (c .before .label2 .ensures ∙ label-answered _ _ _ _ (c .before .before .before .before .before .before .before .before .pre .0) (omega arith)))
+
+row : (c : tie.In-loop Inv-loop μ-loop)
+    → Stands (c .before .before .before .before .before .before .before .before .before .before .args .n) (now (c .before .before .before .before .before .before .before .before .before .before .args .work)) (c .before .before .before .before .before .before .before .before .before .before .args .i) (c .before .loop .h) (c .before .loop .across)
+row c = stands _ _ _ _ _ (c .before .before .before .before .before .before .before .before .before .before .pre .0) (omega arith) (c .before .loop .inv .2 (c .loop-test .taken))
+
+column : (c : tie.In-loop Inv-loop μ-loop)
+    → Stands (c .before .before .before .before .before .before .before .before .before .before .args .n) (now (c .before .before .before .before .before .before .before .before .before .before .args .work)) (c .before .loop .h) (c .before .before .before .before .before .before .before .before .before .before .args .j) (c .before .loop .down)
+column c = stands _ _ _ _ _ (c .before .before .before .before .before .before .before .before .before .before .pre .0) (omega arith) (c .before .loop .inv .3 (c .loop-test .taken))
+
+sub-subtract : tie.Need-sub-subtract Inv-loop μ-loop
+sub-subtract c = omega (arith, row (c .before))
+
+mul-subtract : tie.Need-mul-subtract Inv-loop μ-loop
+mul-subtract c = omega (arith, row (c .before))
+
+shared-slice-read-subtract : tie.Need-shared-slice-read-subtract Inv-loop μ-loop
+shared-slice-read-subtract c = omega (arith, row (c .before .before))
+
+sub-subtract-2 : tie.Need-sub-subtract-2 Inv-loop μ-loop
+sub-subtract-2 c = omega (arith, column (c .before .before))
+
+mul-subtract-2 : tie.Need-mul-subtract-2 Inv-loop μ-loop
+mul-subtract-2 c = omega (arith, column (c .before .before))
+
+shared-slice-read-subtract-2 : tie.Need-shared-slice-read-subtract-2 Inv-loop μ-loop
+shared-slice-read-subtract-2 c = omega (arith, column (c .before .before .before))
+
+subtract-requires : tie.Need-subtract-requires Inv-loop μ-loop
+subtract-requires c κs = rw (inner-at (row (c .before .before .before)) (column (c .before .before .before))) at (rising-room _ _ _ _ _ _ _ _ _ (c .before .before .before .before .loop .inv .1) (omega arith))
+
+sub-wide : tie.Need-sub-wide Inv-loop μ-loop
+sub-wide c = omega arith
+
+wide-requires-3 : tie.Need-wide-requires-3 Inv-loop μ-loop
+wide-requires-3 c κs = search needs
+
+mul-step : tie.Need-mul-step Inv-loop μ-loop
+mul-step c = omega arith
+
+add-across : tie.Need-add-across Inv-loop μ-loop
+add-across c = omega (arith, row (c .before .before .before .before .before .before .before))
+
+sub-down : tie.Need-sub-down Inv-loop μ-loop
+sub-down c = omega arith
+
+add-down : tie.Need-add-down Inv-loop μ-loop
+add-down c = omega (arith, column (c .before .before .before .before .before .before .before))
+
+add-h : tie.Need-add-h Inv-loop μ-loop
+add-h c = omega arith
+
+loop-less : tie.Need-loop-less Inv-loop μ-loop
+loop-less c = omega arith
+
+loop-again : tie.Need-loop-again Inv-loop μ-loop
+loop-again c = (c .before .before .before .before .before .before .before .before .loop .inv .0, rising-more _ _ _ _ _ _ _ _ _ (c .before .before .before .before .before .before .before .before .loop .inv .1) _ _ (omega arith) (rw (← inner-at (row (c .before .before .before .before .before .before .before)) (column (c .before .before .before .before .before .before .before))) at (c .before .before .before .subtract .ensures)), (λ below. label-across _ _ _ _ _ (row (c .before .before .before .before .before .before .before) .is) (c .wide3 .ensures) (omega arith) (omega arith) (omega arith)), λ below. label-downward _ _ _ _ _ (column (c .before .before .before .before .before .before .before) .is) (c .wide3 .ensures) (omega arith) (omega arith) (omega arith))
+
+returns : tie.Need-returns Inv-loop μ-loop
+returns c = rising-ends _ _ _ _ _ _ _ _ _ (c .before .loop .inv .1) (omega arith)
+
+same-length : tie.Need-same-length Inv-loop μ-loop
+same-length c = wrote-length _ _ _ _ _ _ (c .before .before .before .before .before .before .before .before .before .before .pre .1 .1 .1) (returns c)
+
+pub write-inner-spec : {M : Type 1} → statement M
+write-inner-spec =
+    tie.close
+    (tie.spec
+    Inv-loop
+    μ-loop
+    earlier-requires
+    later-requires
+    label-requires
+    wide-requires
+    label-requires-2
+    wide-requires-2
+    loop-holds
+    sub-subtract
+    mul-subtract
+    shared-slice-read-subtract
+    sub-subtract-2
+    mul-subtract-2
+    shared-slice-read-subtract-2
+    subtract-requires
+    sub-wide
+    wide-requires-3
+    mul-step
+    add-across
+    sub-down
+    add-down
+    add-h
+    loop-less
+    loop-again
+    same-length
+    returns)

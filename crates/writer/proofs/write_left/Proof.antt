@@ -1,0 +1,98 @@
+-- `write::write_left` writes y(m)'s products. The invariant: those from h on are left to write, and across is the label of (m, h). The measure is
+-- how many h are left.
+use Prim.Native.Nat.{_<_, _-_}
+use native.Mathlib.Omega.{arith}
+use mathlib.Core.Path.{_≡_, _∙_}
+use borrow.Author.Needs.{needs}
+use denote.Ref.{now}
+use Rattle.model.specs.Label.{label}
+use Rattle.writer.specs.Worked.{forwardAt}
+use Rattle.writer.proofs.Products.{label-answered, Stands, stands, forward-at, label-across, Rising, rising-skips, rising-room, rising-more, rising-ends}
+use Rattle.writer.proofs.Written.{wrote-length}
+use Rattle.writer.proofs.write_left.Statement.{statement}
+use Rattle.writer.proofs.write_left.Tie as tie
+
+abbrev Inv-loop : tie.InvT-loop
+Inv-loop n work rest₀ first k m from next₀ h₀ across₀ rest next h across = Rising (forwardAt n work m) 1 first k m rest₀ next h rest × (h < m → across ≡ label n m h)
+
+abbrev μ-loop : tie.MeasureT-loop
+μ-loop n work rest₀ first k m from next₀ h₀ across₀ rest next h across = m - h
+
+later-requires : tie.Need-later-requires Inv-loop μ-loop
+later-requires c κs = search needs
+
+label-requires : tie.Need-label-requires Inv-loop μ-loop
+label-requires c κs = search needs
+
+wide-requires : tie.Need-wide-requires Inv-loop μ-loop
+wide-requires c κs = search needs
+
+loop-holds : tie.Need-loop-holds Inv-loop μ-loop
+loop-holds c = (rw (c .before .before .later .ensures) (rising-skips _ _ _ _ _ _ (c .before .before .before .before .before .pre .1 .1 .0) (c .before .before .before .before .before .pre .1 .1 .1)), λ below. c .wide .ensures ∙ (c .before .label .ensures ∙ label-answered _ _ _ _ (c .before .before .before .before .before .pre .0) (omega arith)))
+
+here : (c : tie.In-loop Inv-loop μ-loop)
+    → Stands (c .before .before .before .before .before .before .before .args .n) (now (c .before .before .before .before .before .before .before .args .work)) (c .before .before .before .before .before .before .before .args .m) (c .before .loop .h) (c .before .loop .across)
+here c = stands _ _ _ _ _ (c .before .before .before .before .before .before .before .pre .0) (omega arith) (c .before .loop .inv .1 (c .loop-test .taken))
+
+sub-subtract : tie.Need-sub-subtract Inv-loop μ-loop
+sub-subtract c = omega (arith, here (c .before))
+
+mul-subtract : tie.Need-mul-subtract Inv-loop μ-loop
+mul-subtract c = omega (arith, here (c .before))
+
+shared-slice-read-subtract : tie.Need-shared-slice-read-subtract Inv-loop μ-loop
+shared-slice-read-subtract c = omega (arith, here (c .before .before))
+
+subtract-requires : tie.Need-subtract-requires Inv-loop μ-loop
+subtract-requires c κs = rw (forward-at (here (c .before .before))) at (rising-room _ _ _ _ _ _ _ _ _ (c .before .before .before .loop .inv .0) (c .before .before .loop-test .taken))
+
+sub-wide : tie.Need-sub-wide Inv-loop μ-loop
+sub-wide c = omega arith
+
+wide-requires-2 : tie.Need-wide-requires-2 Inv-loop μ-loop
+wide-requires-2 c κs = search needs
+
+mul-across : tie.Need-mul-across Inv-loop μ-loop
+mul-across c = omega arith
+
+add-across : tie.Need-add-across Inv-loop μ-loop
+add-across c = omega (arith, here (c .before .before .before .before .before .before))
+
+add-h : tie.Need-add-h Inv-loop μ-loop
+add-h c = omega arith
+
+loop-less : tie.Need-loop-less Inv-loop μ-loop
+loop-less c = omega arith
+
+loop-again : tie.Need-loop-again Inv-loop μ-loop
+loop-again c = (rising-more _ _ _ _ _ _ _ _ _ (c .before .before .before .before .before .before .before .loop .inv .0) _ _ (c .before .before .before .before .before .before .loop-test .taken) (rw (← forward-at (here (c .before .before .before .before .before .before))) at (c .before .before .before .subtract .ensures)), λ below. label-across _ _ _ _ _ (here (c .before .before .before .before .before .before) .is) (c .wide2 .ensures) (omega arith) (omega arith) (omega arith))
+
+returns : tie.Need-returns Inv-loop μ-loop
+returns c = rising-ends _ _ _ _ _ _ _ _ _ (c .before .loop .inv .0) (c .loop-test .left)
+
+same-length : tie.Need-same-length Inv-loop μ-loop
+same-length c = wrote-length _ _ _ _ _ _ (c .before .before .before .before .before .before .before .pre .1 .1 .1) (returns c)
+
+pub write-left-spec : {M : Type 1} → statement M
+write-left-spec =
+    tie.close
+    (tie.spec
+    Inv-loop
+    μ-loop
+    later-requires
+    label-requires
+    wide-requires
+    loop-holds
+    sub-subtract
+    mul-subtract
+    shared-slice-read-subtract
+    subtract-requires
+    sub-wide
+    wide-requires-2
+    mul-across
+    add-across
+    add-h
+    loop-less
+    loop-again
+    same-length
+    returns)

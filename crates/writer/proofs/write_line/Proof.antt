@@ -1,0 +1,61 @@
+-- `write::write_line` writes a column or a row. The invariant: the places before the t-th are done. The measure is how many are left.
+use Prim.Native.Nat.{suc, _-_}
+use native.Mathlib.Omega.{arith}
+use borrow.Author.Needs.{needs}
+use Rattle.writer.proofs.Line.{Along, along-starts, along-place, along-more, along-ends}
+use Rattle.writer.proofs.Written.{wrote-length}
+use Rattle.writer.proofs.write_line.Statement.{statement}
+use Rattle.writer.proofs.write_line.Tie as tie
+
+abbrev Inv-loop : tie.InvT-loop
+Inv-loop n plan work rows columns words₀ m across divisor at₀ t₀ words at t = Along n plan work across m (at₀ .next) words₀ at t words
+
+abbrev μ-loop : tie.MeasureT-loop
+μ-loop n plan work rows columns words₀ m across divisor at₀ t₀ words at t = suc n - t
+
+first-of-requires : tie.Need-first-of-requires Inv-loop μ-loop
+first-of-requires c κs = omega arith
+
+loop-holds : tie.Need-loop-holds Inv-loop μ-loop
+loop-holds c = along-starts _ (c .first-of .ensures) (omega arith) (c .before .before .before .before .before .before .pre .1 .1 .1 .0) (c .before .before .before .before .before .before .pre .1 .1 .1 .1)
+
+row-of-requires : tie.Need-row-of-requires Inv-loop μ-loop
+row-of-requires c κs = search needs
+
+column-of-requires : tie.Need-column-of-requires Inv-loop μ-loop
+column-of-requires c κs = search needs
+
+write-next-requires : tie.Need-write-next-requires Inv-loop μ-loop
+write-next-requires c κs = (c .before .before .before .before .before .before .before .before .before .before .before .pre .0, along-place (c .before .before .before .before .loop .inv) (c .before .before .before .before .before .before .before .before .before .before .before .pre .1 .0) (c .before .before .before .loop-test .taken) _ _ _ (c .before .row-of .ensures) (c .column-of .ensures) (c .before .before .before .before .before .before .before .before .before .before .before .pre .1 .1 .0))
+
+add-t : tie.Need-add-t Inv-loop μ-loop
+add-t c = omega arith
+
+loop-less : tie.Need-loop-less Inv-loop μ-loop
+loop-less c = omega arith
+
+loop-again : tie.Need-loop-again Inv-loop μ-loop
+loop-again c = along-more (c .before .before .before .before .before .before .before .loop .inv) (c .before .before .before .before .before .before .before .before .before .before .before .before .before .before .pre .1 .0) (c .before .before .before .before .before .before .loop-test .taken) _ _ _ (c .before .before .before .before .row-of .ensures) (c .before .before .before .column-of .ensures) (c .before .before .before .before .before .before .before .before .before .before .before .before .before .before .pre .1 .1 .0) _ _ (c .before .before .write-next .ensures .0) (c .before .before .write-next .ensures .1)
+
+returns : tie.Need-returns Inv-loop μ-loop
+returns c = along-ends (c .before .loop .inv) (c .loop-test .left)
+
+same-length : tie.Need-same-length Inv-loop μ-loop
+same-length c = wrote-length _ _ _ _ _ _ (c .before .before .before .before .before .before .before .before .pre .1 .1 .1 .1) (returns c .0)
+
+pub write-line-spec : {M : Type 1} → statement M
+write-line-spec =
+    tie.close
+    (tie.spec
+    Inv-loop
+    μ-loop
+    first-of-requires
+    loop-holds
+    row-of-requires
+    column-of-requires
+    write-next-requires
+    add-t
+    loop-less
+    loop-again
+    same-length
+    returns)

@@ -1,0 +1,118 @@
+-- `write::write_next` writes nothing where the next place isn't held, and else its formula, into the rest of the words.
+use native.Mathlib.Numerals.{add-one}
+use native.Mathlib.Omega.{arith}
+use mathlib.Core.Path.{_≡_, ap, _∙_}
+use denote.Ref.{now}
+use lib.ListN.{getD}
+use Rattle.model.specs.Program.{recordsOf}
+use Rattle.writer.specs.Worked.{formulaAt}
+use Rattle.writer.specs.Line.{placeAt}
+use Prim.Native.Nat.{suc, _*_}
+use borrow.Author.Needs.{needs}
+use Rattle.writer.proofs.Written.{wrote-none, lent-room, lent-back}
+use Rattle.writer.proofs.Line.{inner-none, place-left-out, place-kept, place-bounds, passed-left-out, position-found, passed-kept}
+use Rattle.writer.proofs.write_next.Statement.{statement}
+use Rattle.writer.proofs.write_next.Tie as tie
+
+wide-requires : tie.Need-wide-requires
+wide-requires c κs = search needs
+
+mul-slot : tie.Need-mul-slot
+mul-slot c = search needs
+
+shared-slice-read-slot : tie.Need-shared-slice-read-slot
+shared-slice-read-slot c = omega (arith, place-bounds (c .before .before .before .before .before .before .before .pre .0) _ _ (c .before .before .before .before .before .before .before .pre .1 .0) _ (c .before .before .before .before .before .before .before .pre .1 .1 .0))
+
+add-label : tie.Need-add-label
+add-label c = omega (arith, place-bounds (c .before .before .before .before .before .before .before .pre .0) _ _ (c .before .before .before .before .before .before .before .pre .1 .0) _ (c .before .before .before .before .before .before .before .pre .1 .1 .0))
+
+returns : tie.Need-returns
+returns c = (rw (place-left-out (c .before .before .before .before .before .before .before .before .pre .0) _ _ (c .before .before .before .before .before .before .before .before .pre .1 .0) (c .before .before .wide .result) _ (ap suc (c .before .before .wide .ensures) ∙ c .before .before .before .before .before .before .before .before .pre .1 .1 .0 .here) (c .if1 .taken)) (wrote-none _ _ _), (add-one _, passed-left-out (c .before .before .before .before .before .before .before .before .pre .0) _ _ (c .before .before .before .before .before .before .before .before .pre .1 .0) _ (c .before .before .before .before .before .before .before .before .pre .1 .1 .0) (rw (c .before .before .wide .ensures) at (c .if1 .taken))))
+
+position-requires : tie.Need-position-requires
+position-requires c κs = omega (arith, place-bounds (c .before .before .before .before .before .before .before .before .pre .0) _ _ (c .before .before .before .before .before .before .before .before .pre .1 .0) _ (c .before .before .before .before .before .before .before .before .pre .1 .1 .0))
+
+wide-requires-2 : tie.Need-wide-requires-2
+wide-requires-2 c κs = search needs
+
+mul-later : tie.Need-mul-later
+mul-later c = search needs
+
+shared-slice-read-later : tie.Need-shared-slice-read-later
+shared-slice-read-later c = search needs
+
+wide-requires-3 : tie.Need-wide-requires-3
+wide-requires-3 c κs = search needs
+
+mul-later-2 : tie.Need-mul-later-2
+mul-later-2 c = search needs
+
+shared-slice-read-later-2 : tie.Need-shared-slice-read-later-2
+shared-slice-read-later-2 c = search needs
+
+later-requires : tie.Need-later-requires
+later-requires c κs = search needs
+
+wide-requires-4 : tie.Need-wide-requires-4
+wide-requires-4 c κs = search needs
+
+mul-start : tie.Need-mul-start
+mul-start c = search needs
+
+mul-write-place : tie.Need-mul-write-place
+mul-write-place c = search needs
+
+sub-write-place : tie.Need-sub-write-place
+sub-write-place c = search needs
+
+part-write-place-start : tie.Need-part-write-place-start
+part-write-place-start c = search needs
+
+part-write-place-end : tie.Need-part-write-place-end
+part-write-place-end c = search needs
+
+-- the place is held
+kept : (c : tie.After-position)
+    → placeAt (c .before .before .before .before .before .before .before .before .before .args .n) (now (c .before .before .before .before .before .before .before .before .before .args .plan)) (now (c .before .before .before .before .before .before .before .before .before .args .work)) (c .before .before .before .before .before .before .before .before .before .args .divisor) (c .before .before .before .before .before .before .before .before .before .args .i) (c .before .before .before .before .before .before .before .before .before .args .j)
+    ≡ recordsOf (formulaAt (c .before .before .before .before .before .before .before .before .before .args .n) (now (c .before .before .before .before .before .before .before .before .before .args .work)) (getD (now (c .before .before .before .before .before .before .before .before .before .args .work)) (c .before .before .before .wide .result) 0) (c .position .result) (c .before .before .before .before .before .before .before .before .before .args .divisor) (c .before .before .before .before .before .before .before .before .before .args .i) (c .before .before .before .before .before .before .before .before .before .args .j))
+kept c = place-kept (c .before .before .before .before .before .before .before .before .before .pre .0) _ _ (c .before .before .before .before .before .before .before .before .before .pre .1 .0) (c .before .before .before .wide .result) _ (ap suc (c .before .before .before .wide .ensures) ∙ c .before .before .before .before .before .before .before .before .before .pre .1 .1 .0 .here) (c .position .result) (c .before .if1 .left) (position-found (c .before .before .before .before .before .before .before .before .before .pre .0) _ _ (c .before .before .before .before .before .before .before .before .before .pre .1 .0) _ (c .before .before .before .before .before .before .before .before .before .pre .1 .1 .0) _ (c .position .ensures))
+
+write-place-requires : tie.Need-write-place-requires
+write-place-requires c κs = (c .before .before .before .before .before .before .before .before .before .before .before .before .before .before .before .before .pre .0 .covers, (c .before .before .before .before .before .before .before .before .before .before .before .before .before .before .before .before .pre .1 .0, (inner-none (c .before .before .before .before .before .before .before .before .before .before .before .before .before .before .before .before .pre .0) _ _ _ _ _ (c .before .before .before .before .before .before .before .before .before .before .before .before .before .before .before .before .pre .1 .0) (c .before .before .before .before .before .before .wide2 .ensures) (c .before .before .before .before .wide3 .ensures) (c .before .before .later .ensures), lent-room _ _ _ _ (ap (_*_ 4) (c .before .wide4 .ensures)) (rw (kept (c .before .before .before .before .before .before .before)) at (c .before .before .before .before .before .before .before .before .before .before .before .before .before .before .before .before .pre .1 .1 .1)))))
+
+later-requires-2 : tie.Need-later-requires-2
+later-requires-2 c κs = search needs
+
+same-length : tie.Need-same-length
+same-length c = search needs
+
+returns-2 : tie.Need-returns-2
+returns-2 c = (rw (kept (c .before .before .before .before .before .before .before .before .before .before .before)) (lent-back _ _ _ _ (ap (_*_ 4) (c .before .before .before .before .before .wide4 .ensures)) _ _ (c .before .before .before .write-place .ensures)), (add-one _, c .later2 .ensures ∙ passed-kept (c .before .before .before .before .before .before .before .before .before .before .before .before .before .before .before .before .before .before .before .before .pre .0) _ _ (c .before .before .before .before .before .before .before .before .before .before .before .before .before .before .before .before .before .before .before .before .pre .1 .0) _ (c .before .before .before .before .before .before .before .before .before .before .before .before .before .before .before .before .before .before .before .before .pre .1 .1 .0) _ (c .before .before .before .before .before .before .before .before .before .before .before .position .ensures)))
+
+pub write-next-spec : {M : Type 1} → statement M
+write-next-spec =
+    tie.close
+    (tie.spec
+    wide-requires
+    mul-slot
+    shared-slice-read-slot
+    add-label
+    returns
+    position-requires
+    wide-requires-2
+    mul-later
+    shared-slice-read-later
+    wide-requires-3
+    mul-later-2
+    shared-slice-read-later-2
+    later-requires
+    wide-requires-4
+    mul-start
+    mul-write-place
+    sub-write-place
+    part-write-place-start
+    part-write-place-end
+    write-place-requires
+    later-requires-2
+    same-length
+    returns-2)

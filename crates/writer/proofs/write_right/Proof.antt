@@ -1,0 +1,81 @@
+-- `write::write_right` writes x(i)'s products. The invariant: those from h down are left to write, and across is the label of (i, h). The measure is h.
+use Prim.Native.Nat.{_<_}
+use native.Mathlib.Omega.{arith}
+use mathlib.Core.Path.{_≡_, _∙_}
+use denote.Ref.{now}
+use borrow.Author.Needs.{needs}
+use Rattle.model.specs.Label.{label}
+use Rattle.writer.specs.Worked.{backwardAt}
+use Rattle.writer.proofs.Products.{label-answered, Stands, stands, backward-at, label-left, Falling, falling-starts, falling-room, falling-more, falling-ends}
+use Rattle.writer.proofs.Written.{wrote-length}
+use Rattle.writer.proofs.write_right.Statement.{statement}
+use Rattle.writer.proofs.write_right.Tie as tie
+
+abbrev Inv-loop : tie.InvT-loop
+Inv-loop n work rest₀ first k i next₀ h₀ across₀ rest next h across = Falling (backwardAt n work i) first k n i rest₀ next h rest × (i < h → across ≡ label n i h)
+
+abbrev μ-loop : tie.MeasureT-loop
+μ-loop n work rest₀ first k i next₀ h₀ across₀ rest next h across = h
+
+label-requires : tie.Need-label-requires Inv-loop μ-loop
+label-requires c κs = search needs
+
+wide-requires : tie.Need-wide-requires Inv-loop μ-loop
+wide-requires c κs = search needs
+
+loop-holds : tie.Need-loop-holds Inv-loop μ-loop
+loop-holds c = (falling-starts _ _ _ _ _ _ (omega arith) (c .before .before .before .before .pre .1 .1), λ above. c .wide .ensures ∙ (c .before .label .ensures ∙ label-answered _ _ _ _ (c .before .before .before .before .pre .0) (omega arith)))
+
+here : (c : tie.In-loop Inv-loop μ-loop)
+    → Stands (c .before .before .before .before .before .before .args .n) (now (c .before .before .before .before .before .before .args .work)) (c .before .before .before .before .before .before .args .i) (c .before .loop .h) (c .before .loop .across)
+here c = stands _ _ _ _ _ (c .before .before .before .before .before .before .pre .0) (omega arith) (c .before .loop .inv .1 (c .loop-test .taken))
+
+sub-subtract : tie.Need-sub-subtract Inv-loop μ-loop
+sub-subtract c = omega (arith, here (c .before))
+
+mul-subtract : tie.Need-mul-subtract Inv-loop μ-loop
+mul-subtract c = omega (arith, here (c .before))
+
+shared-slice-read-subtract : tie.Need-shared-slice-read-subtract Inv-loop μ-loop
+shared-slice-read-subtract c = omega (arith, here (c .before .before))
+
+subtract-requires : tie.Need-subtract-requires Inv-loop μ-loop
+subtract-requires c κs = rw (backward-at (here (c .before .before))) at (falling-room _ _ _ _ _ _ _ _ _ (c .before .before .before .loop .inv .0) (c .before .before .loop-test .taken))
+
+sub-across : tie.Need-sub-across Inv-loop μ-loop
+sub-across c = omega (arith, here (c .before .before .before .before .before))
+
+sub-h : tie.Need-sub-h Inv-loop μ-loop
+sub-h c = omega arith
+
+loop-less : tie.Need-loop-less Inv-loop μ-loop
+loop-less c = omega arith
+
+loop-again : tie.Need-loop-again Inv-loop μ-loop
+loop-again c = (falling-more _ _ _ _ _ _ _ _ _ (c .before .before .before .before .before .before .loop .inv .0) _ _ (c .before .before .before .before .before .loop-test .taken) (rw (← backward-at (here (c .before .before .before .before .before))) at (c .before .before .subtract .ensures)), label-left _ _ _ _ (here (c .before .before .before .before .before) .is))
+
+returns : tie.Need-returns Inv-loop μ-loop
+returns c = falling-ends _ _ _ _ _ _ _ _ _ (c .before .loop .inv .0) (c .loop-test .left)
+
+same-length : tie.Need-same-length Inv-loop μ-loop
+same-length c = wrote-length _ _ _ _ _ _ (c .before .before .before .before .before .before .pre .1 .1) (returns c)
+
+pub write-right-spec : {M : Type 1} → statement M
+write-right-spec =
+    tie.close
+    (tie.spec
+    Inv-loop
+    μ-loop
+    label-requires
+    wide-requires
+    loop-holds
+    sub-subtract
+    mul-subtract
+    shared-slice-read-subtract
+    subtract-requires
+    sub-across
+    sub-h
+    loop-less
+    loop-again
+    same-length
+    returns)

@@ -1,0 +1,77 @@
+-- `write::write_solution` writes x(n)..x(1). The invariant: those from i down are left to write. The measure is i.
+use Prim.Native.Nat.{_*_}
+use native.Mathlib.Omega.{arith}
+use mathlib.Core.Path.{ap}
+use borrow.Author.Needs.{needs}
+use Rattle.writer.specs.Line.{xAt}
+use Rattle.writer.proofs.Products.{Falling, falling-starts, falling-room, falling-more, falling-ends}
+use Rattle.writer.proofs.Written.{lent-room, lent-back, wrote-length}
+use Rattle.writer.proofs.write_solution.Statement.{statement}
+use Rattle.writer.proofs.write_solution.Tie as tie
+
+abbrev Inv-loop : tie.InvT-loop
+Inv-loop n work words₀ k next₀ i₀ words next i = Falling (xAt n work) 0 k n 0 words₀ next i words
+
+abbrev μ-loop : tie.MeasureT-loop
+μ-loop n work words₀ k next₀ i₀ words next i = i
+
+loop-holds : tie.Need-loop-holds Inv-loop μ-loop
+loop-holds c = falling-starts _ _ _ _ _ _ (omega arith) (c .before .before .pre .1)
+
+wide-requires : tie.Need-wide-requires Inv-loop μ-loop
+wide-requires c κs = search needs
+
+mul-start : tie.Need-mul-start Inv-loop μ-loop
+mul-start c = search needs
+
+mul-write-backward : tie.Need-mul-write-backward Inv-loop μ-loop
+mul-write-backward c = search needs
+
+sub-write-backward : tie.Need-sub-write-backward Inv-loop μ-loop
+sub-write-backward c = search needs
+
+part-write-backward-start : tie.Need-part-write-backward-start Inv-loop μ-loop
+part-write-backward-start c = search needs
+
+part-write-backward-end : tie.Need-part-write-backward-end Inv-loop μ-loop
+part-write-backward-end c = search needs
+
+write-backward-requires : tie.Need-write-backward-requires Inv-loop μ-loop
+unfolding xAt
+write-backward-requires c κs = (c .before .before .before .before .before .before .pre .0, (omega arith, lent-room _ _ _ _ (ap (_*_ 4) (c .before .wide .ensures)) (falling-room _ _ _ _ _ _ _ _ _ (c .before .before .before .loop .inv) (c .before .before .loop-test .taken))))
+
+sub-i : tie.Need-sub-i Inv-loop μ-loop
+sub-i c = omega arith
+
+loop-less : tie.Need-loop-less Inv-loop μ-loop
+loop-less c = omega arith
+
+loop-again : tie.Need-loop-again Inv-loop μ-loop
+unfolding xAt
+loop-again c = falling-more _ _ _ _ _ _ _ _ _ (c .before .before .before .before .before .before .loop .inv) _ _ (c .before .before .before .before .before .loop-test .taken) (lent-back _ _ _ _ (ap (_*_ 4) (c .before .before .before .before .wide .ensures)) _ _ (c .before .before .write-backward .ensures))
+
+returns : tie.Need-returns Inv-loop μ-loop
+returns c = falling-ends _ _ _ _ _ _ _ _ _ (c .before .loop .inv) (c .loop-test .left)
+
+same-length : tie.Need-same-length Inv-loop μ-loop
+same-length c = wrote-length _ _ _ _ _ _ (c .before .before .before .before .pre .1) (returns c)
+
+pub write-solution-spec : {M : Type 1} → statement M
+write-solution-spec =
+    tie.close
+    (tie.spec
+    Inv-loop
+    μ-loop
+    loop-holds
+    wide-requires
+    mul-start
+    mul-write-backward
+    sub-write-backward
+    part-write-backward-start
+    part-write-backward-end
+    write-backward-requires
+    sub-i
+    loop-less
+    loop-again
+    same-length
+    returns)

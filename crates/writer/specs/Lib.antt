@@ -1,0 +1,5 @@
+-- What the contracts of the writer cite.
+pub mod Written
+pub mod Worked
+pub mod Line
+pub mod Prepared
