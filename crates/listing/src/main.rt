@@ -83,7 +83,7 @@ fn print_record(k: u32, words: &[u32])
 {
     let at = 4 * wide(k);
     let mut line = [0u8; 64];
-    let size = text::record_line(
+    let size = output::record_line(
         k,
         words[at],
         words[at + 1],
@@ -96,7 +96,7 @@ fn print_record(k: u32, words: &[u32])
 
 fn print_refusal(number: u32, detail: u64) {
     let mut line = [0u8; 64];
-    let size = text::refusal_line(number, detail, &mut line);
+    let size = output::refusal_line(number, detail, &mut line);
     io::write_all(STDOUT_FILENO, &line[..size]);
 }
 

@@ -1,23 +1,18 @@
 -- Along a line: the places before the t-th are done, and the work numbers after them are as they came.
-use Prim.Native.Nat.{ℕ, suc, _+_, _-_, _≤_, _<_}
+use Prim.Native.Nat.{ℕ, suc, _≤_, _<_}
 use native.Mathlib.Omega.{arith}
-use mathlib.Core.Path.{_≡_, refl, sym, ap, _∙_}
+use mathlib.Core.Path.{_≡_, refl, ap, _∙_}
 use mathlib.Core.Bool.{Bool, true, false}
 use mathlib.Core.List.{List}
 use lib.ListN.{length, drop}
-use lib.Seq.{drop-drop}
 use Rattle.model.specs.Fill.{Plan, held}
+use Rattle.model.proofs.Lists.{drop-later}
 use Rattle.model.proofs.Pointer.{isNext}
 use Rattle.slots.specs.Walked.{Checked, Reached, Settled}
 use Rattle.slots.specs.Batch.{firstOf}
 use Rattle.slots.specs.declared.Walk.{Walk}
 use Rattle.slots.proofs.Here.{Here, line-next}
 use Rattle.slots.proofs.Settling.{settled-length, settled-rest, settled-walked}
-
-pub drop-later : (xs ys : List ℕ) (a b : ℕ) → a ≤ b → drop a xs ≡ drop a ys → drop b xs ≡ drop b ys
-drop-later xs ys a b h e =
-    let s : b ≡ a + (b - a) = omega arith in
-    rw s (sym (drop-drop (b - a) a xs) ∙ ap (drop (b - a)) e ∙ drop-drop (b - a) a ys)
 
 pub checked-again : {N : ℕ} {L : Plan} {work work′ : List ℕ} → Checked N L work → length work′ ≡ length work → Checked N L work′
 checked-again c e = record { low = c .low; high = c .high; rises = c .rises; room = omega (arith, c .room) }

@@ -11,6 +11,7 @@ use lib.Seq.{take-all}
 use Rattle.model.specs.Lists.{rising, total}
 use Rattle.model.specs.Fill.{Plan, held, missingFrom, missing}
 use Rattle.model.specs.Compile.{slotNumbers}
+use Rattle.model.proofs.Lists.{drop-later}
 use Rattle.model.proofs.Labels.{Inside, label-range, label-first, label-end, label-down, label-turn, label-right, label-next, label-in-column}
 use Rattle.model.proofs.Slots.{closed-none, closed-all}
 use Rattle.model.proofs.Lines.{row-size}
@@ -21,7 +22,6 @@ use Rattle.model.proofs.Batches.{downOf, rightOf, batchProducts, above-by-batch
 use Rattle.slots.specs.Walked.{Checked, Reached, AllHeld, PivotMissing}
 use Rattle.slots.specs.declared.Walk.{Walk}
 use Rattle.slots.proofs.Here.{work-tested}
-use Rattle.slots.proofs.Along.{drop-later}
 
 -- the first m - 1 batches are done
 pub record Passing (N : ℕ) (L : Plan) (before : List ℕ) (m : ℕ) (walk : Walk) (products over : ℕ) (work inRows inColumns : List ℕ) : Type 0 where

@@ -2,5 +2,3 @@
 pub mod Bytes
 pub mod Numbers
 pub mod Steps
-pub mod Digits
-pub mod Places

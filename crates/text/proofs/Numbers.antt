@@ -10,10 +10,10 @@ use lib.ListN.{length, take, drop, set, getD, length-take, length-append, drop-o
 use lib.Seq.{length-take-le, take-all, take-append-le, take-suc-set, drop-set-lt}
 use borrow.Author.Tests.{le-ltb, ltb-true, ltb-false}
 use Rattle.model.specs.Text.{joining, named, scanned, badAt}
+use Rattle.model.proofs.Lists.{drop-later}
 use Rattle.text.specs.declared.Scanned.{Scanned}
 use Rattle.text.specs.declared.Scanned.the-variants.{Numbers, BadAt}
 use Rattle.text.specs.Readings.{Kept, Untouched, Counted, Standing}
-use Rattle.text.proofs.Places.{further}
 
 -- there is room for a number where the count is below the slice's length
 pub room : (xs : List ℕ) (k : ℕ) → ltb k (length xs) ≡ ltb (length (take k xs)) (length xs)
@@ -68,11 +68,7 @@ kept-stored xs k v = record { grown = omega arith; rest = drop-set-lt (k + 1) xs
 
 pub kept-more : {a b c : ℕ} {xs ys zs : List ℕ} → Kept a b xs ys → Kept b c ys zs → Kept a c xs zs
 kept-more {a} {b} {c} {xs} {ys} {zs} p q =
-    let on : b + (c - b) ≡ c = omega (arith, q .grown) in
-    record {
-      grown = omega (arith, p .grown, q .grown);
-      rest = q .rest ∙ subst (λ n. drop n ys ≡ drop n xs) on (further b (c - b) ys xs (p .rest));
-    }
+    record { grown = omega (arith, p .grown, q .grown); rest = q .rest ∙ drop-later ys xs b c (q .grown) (p .rest) }
 
 -- the end of the input
 pub standing : (r : Scanned) (k size : ℕ) → Counted r k size → Standing r size

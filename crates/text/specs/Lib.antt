@@ -1,3 +1,2 @@
 -- What the contracts of `text` cite.
 pub mod Readings
-pub mod Lines

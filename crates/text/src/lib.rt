@@ -1,8 +1,4 @@
-// The listing program's text, without its reading and writing: bytes to numbers, and lines. Document 01, "Listing program".
-mod line;
-
-pub use line::record_line;
-pub use line::refusal_line;
+// What the listing program reads, without the reading itself: bytes to numbers. Document 01, "Listing program".
 ghost use mathlib.Core.Path.{_≡_};
 ghost use mathlib.Core.Bool.{true};
 ghost use mathlib.Core.List.{List};

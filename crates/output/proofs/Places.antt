@@ -2,16 +2,13 @@
 use Prim.Native.Nat.{ℕ, _+_, _≤_, _<_}
 use native.Mathlib.Omega.{arith}
 use native.Mathlib.Numerals.{add-one}
-use mathlib.Core.Path.{_≡_, refl, sym, ap, ap₂, subst, _∙_}
+use mathlib.Core.Path.{_≡_, refl, sym, ap, ap₂, _∙_}
 use mathlib.Core.List.{List, [], _∷_, _++_, append-assoc, append-nil}
 use lib.ListN.{length, take, drop, set, length-append, take-append-drop}
-use lib.Seq.{length-take-le, take-suc-set, drop-set-lt, drop-drop}
+use lib.Seq.{length-take-le, take-suc-set, drop-set-lt}
 use Rattle.model.specs.Text.{decimal, entry}
-use Rattle.text.specs.Lines.{Put, Counts}
-
--- lists that agree from a place on agree from any later one on
-pub further : (end k : ℕ) (xs ys : List ℕ) → drop end xs ≡ drop end ys → drop (end + k) xs ≡ drop (end + k) ys
-further end k xs ys e = sym (drop-drop k end xs) ∙ ap (drop k) e ∙ drop-drop k end ys
+use Rattle.model.proofs.Lists.{drop-later}
+use Rattle.output.specs.Lines.{Put, Counts}
 
 -- one byte more is put at the end
 pub put-byte : {end at : ℕ} {later buffer bytes : List ℕ} (v : ℕ) → Put end later at buffer bytes → end < length later
@@ -20,7 +17,7 @@ put-byte {end} {at} {later} {buffer} {bytes} v p h =
     record {
       place = simp length-append (omega (arith, p .place));
       front = rw (add-one, take-suc-set later end v h) (ap (λ l. l ++ (v ∷ [])) (p .front) ∙ append-assoc (take at buffer) bytes (v ∷ []));
-      rest = drop-set-lt (end + 1) later end v (omega arith) ∙ further end 1 later buffer (p .rest);
+      rest = drop-set-lt (end + 1) later end v (omega arith) ∙ drop-later later buffer end (end + 1) (omega arith) (p .rest);
     }
 
 -- nothing is put yet
@@ -34,7 +31,7 @@ put-more {end} {end'} {at} {latest} {later} {buffer} {bytes} {more} p q =
     record {
       place = simp length-append (omega (arith, p .place, q .place));
       front = q .front ∙ ap (λ l. l ++ more) (p .front) ∙ append-assoc (take at buffer) bytes more;
-      rest = q .rest ∙ subst (λ n. drop n later ≡ drop n buffer) (sym (q .place)) (further end (length more) later buffer (p .rest));
+      rest = q .rest ∙ drop-later later buffer end end' (omega (arith, q .place)) (p .rest);
     }
 
 -- a line's place is at most b, in a buffer of 64 bytes

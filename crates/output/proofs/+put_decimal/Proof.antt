@@ -1,18 +1,18 @@
--- `text::line::put_decimal` puts the digits of a tenth, and then the last digit. The measure is the number.
+-- `output::put_decimal` puts the digits of a tenth, and then the last digit. The measure is the number.
 use Prim.Native.Nat.{ℕ, _<_}
 use native.Mathlib.Omega.{arith}
 use mathlib.Core.Path.{sym, subst}
 use lib.ListN.{length, length-set}
-use Rattle.text.proofs.Digits.{decimal-one, decimal-more, one-count, more-count}
-use Rattle.text.proofs.Places.{put-none, put-byte}
-use Rattle.text.specs.Lines.{Put}
+use Rattle.output.proofs.Digits.{decimal-one, decimal-more, one-count, more-count}
+use Rattle.output.proofs.Places.{put-none, put-byte}
+use Rattle.output.specs.Lines.{Put}
 use borrow.Fn.Kinds.{In}
 use borrow.Fn.PlainCycle.{Measures, is, falls, and}
-use Rattle.text.proofs.line.put_decimal.Reads as put-decimal
-use Rattle.text.proofs.line.put_decimal.Kinds as put-decimal-kinds
-use Rattle.text.proofs.line.+put_decimal.Lts-put_decimal as put-decimal-lts
-use Rattle.text.proofs.line.+put_decimal.{statement}
-use Rattle.text.proofs.line.+put_decimal.Tie.{close}
+use Rattle.output.proofs.put_decimal.Reads as put-decimal
+use Rattle.output.proofs.put_decimal.Kinds as put-decimal-kinds
+use Rattle.output.proofs.+put_decimal.Lts-put_decimal as put-decimal-lts
+use Rattle.output.proofs.+put_decimal.{statement}
+use Rattle.output.proofs.+put_decimal.Tie.{close}
 
 abbrev μ-put-decimal : Measures 1 put-decimal-kinds.ps ℕ
 μ-put-decimal κs a = a .0

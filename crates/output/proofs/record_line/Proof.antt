@@ -1,10 +1,10 @@
--- `text::line::record_line` puts the index and four words. Each has at most ten digits, and the byte after it.
+-- `output::record_line` puts the index and four words. Each has at most ten digits, and the byte after it.
 use native.Mathlib.Omega.{arith}
 use Rattle.model.specs.Text.{recordLine}
-use Rattle.text.proofs.Digits.{decimal-short}
-use Rattle.text.proofs.Places.{Room, room-for, room-after, put-more, put-line}
-use Rattle.text.proofs.line.record_line.Statement.{statement}
-use Rattle.text.proofs.line.record_line.Tie as tie
+use Rattle.output.proofs.Digits.{decimal-short}
+use Rattle.output.proofs.Places.{Room, room-for, room-after, put-more, put-line}
+use Rattle.output.proofs.record_line.Statement.{statement}
+use Rattle.output.proofs.record_line.Tie as tie
 
 -- the place that is reached before and after each number, and the buffer then
 before-1 : (c : tie.After-put-entry-arg) → Room 0 0 (c .before .before .args .out .now)

@@ -1,10 +1,11 @@
-// A line of the listing, at the start of a buffer: numbers in decimal digits, each with the byte after it.
+// What the listing program prints: a line at the start of a buffer, numbers in decimal digits, each with the byte after it. Document 01,
+// "Listing program".
 ghost use mathlib.Core.Path.{_≡_};
 ghost use mathlib.Core.List.{_++_};
 ghost use Prim.Native.Nat.{_+_, _≤_, _<_};
 ghost use lib.ListN.{length, drop};
 ghost use Rattle.model.specs.Text.{decimal, entry, recordLine, refusalLine, refused};
-ghost use Rattle.text.specs.Lines.{Put, Counts};
+ghost use Rattle.output.specs.Lines.{Put, Counts};
 
 // Puts a record's line, its index and four words, and answers the line's length.
 pub fn record_line(index: u32, a: u32, b: u32, c: u32, d: u32, out: &mut [u8; 64]) -> usize

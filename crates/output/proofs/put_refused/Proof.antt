@@ -1,10 +1,10 @@
--- `text::line::put_refused` puts the eight bytes of the word and its space.
+-- `output::put_refused` puts the eight bytes of the word and its space.
 use native.Mathlib.Omega.{arith}
 use lib.ListN.{length-set}
 use borrow.Author.Needs.{needs}
-use Rattle.text.proofs.Places.{put-none, put-byte}
-use Rattle.text.proofs.line.put_refused.Statement.{statement}
-use Rattle.text.proofs.line.put_refused.Tie as tie
+use Rattle.output.proofs.Places.{put-none, put-byte}
+use Rattle.output.proofs.put_refused.Statement.{statement}
+use Rattle.output.proofs.put_refused.Tie as tie
 
 slice-write-out : tie.Need-slice-write-out
 slice-write-out c = search needs

@@ -1,9 +1,9 @@
--- `text::line::put_entry` puts a number's digits and the byte after them.
+-- `output::put_entry` puts a number's digits and the byte after them.
 use borrow.Author.Needs.{needs}
 use Rattle.model.specs.Text.{entry}
-use Rattle.text.proofs.Places.{put-byte}
-use Rattle.text.proofs.line.put_entry.Statement.{statement}
-use Rattle.text.proofs.line.put_entry.Tie as tie
+use Rattle.output.proofs.Places.{put-byte}
+use Rattle.output.proofs.put_entry.Statement.{statement}
+use Rattle.output.proofs.put_entry.Tie as tie
 
 put-decimal-requires : tie.Need-put-decimal-requires
 put-decimal-requires c κs = search needs

@@ -1,11 +1,11 @@
--- `text::line::refusal_line` puts the word `refused`, a number of at most ten digits and a detail of at most twenty.
+-- `output::refusal_line` puts the word `refused`, a number of at most ten digits and a detail of at most twenty.
 use native.Mathlib.Omega.{arith}
 use borrow.Author.Needs.{needs}
 use Rattle.model.specs.Text.{refusalLine}
-use Rattle.text.proofs.Digits.{decimal-short, decimal-long}
-use Rattle.text.proofs.Places.{Room, room-for, room-after, put-more, put-line}
-use Rattle.text.proofs.line.refusal_line.Statement.{statement}
-use Rattle.text.proofs.line.refusal_line.Tie as tie
+use Rattle.output.proofs.Digits.{decimal-short, decimal-long}
+use Rattle.output.proofs.Places.{Room, room-for, room-after, put-more, put-line}
+use Rattle.output.proofs.refusal_line.Statement.{statement}
+use Rattle.output.proofs.refusal_line.Tie as tie
 
 put-refused-requires : tie.Need-put-refused-requires
 put-refused-requires c κs = search needs

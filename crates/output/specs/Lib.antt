@@ -1,0 +1,2 @@
+-- What the contracts of `output` cite.
+pub mod Lines
