@@ -1,7 +1,5 @@
--- Laws about the state of a run.
+-- The laws that the proofs of `runner` share.
 pub mod Tables
-pub mod Steps
-pub mod Arms
 pub mod Progress
 pub mod Running
 pub mod Relying

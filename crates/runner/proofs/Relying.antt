@@ -12,9 +12,9 @@ use Rattle.model.specs.Label.{within}
 use Rattle.model.specs.Formula.{Table, C, Y, X}
 use Rattle.model.specs.Check.{Open, idle, busy, Kind, opens, subtracts, divides, closes, closesPivot, none, inOrder, inTurn}
 use Rattle.model.proofs.Within.{within-range}
-use Rattle.runner.specs.declared.State.{State}
-use Rattle.runner.specs.States.{stateOf, Sound, Free, Allowed}
-use Rattle.runner.proofs.Steps.{Counts, counted}
+use Rattle.state.specs.declared.State.{State}
+use Rattle.state.specs.States.{stateOf, Sound, Free, Allowed}
+use Rattle.state.proofs.Steps.{Counts, counted}
 use Rattle.runner.proofs.Progress.{progressOf, Room, both}
 
 module _ (N n s : ℕ) (A c y x : List Float) (z : State) (sound : Sound (length c) (length y) (length x) z) (in-a : length A ≡ n) (in-c : length c ≡ s) (in-y : length y ≡ N) (in-x : length x ≡ N) where

@@ -13,12 +13,12 @@ use Rattle.model.specs.Formula.{C, Y, X}
 use Rattle.model.specs.Check.{word, nextOf, kindOf, isIdle, complete}
 use Rattle.model.specs.Run as Run
 use Rattle.model.specs.Run.{Reply, solves, stops, reply}
-use Rattle.runner.specs.declared.State.{State}
-use Rattle.runner.specs.declared.Stepped.{Stepped}
-use Rattle.runner.specs.declared.Stepped.the-variants.{On, Stop}
-use Rattle.runner.specs.States.{stateOf, steppedOf, unopened, Sound, SoundStep, Ready}
+use Rattle.state.specs.declared.State.{State}
+use Rattle.state.specs.declared.Stepped.{Stepped}
+use Rattle.state.specs.declared.Stepped.the-variants.{On, Stop}
+use Rattle.state.specs.States.{stateOf, steppedOf, unopened, Sound, SoundStep, Ready}
+use Rattle.state.proofs.Steps.{counted}
 use Rattle.runner.specs.Following.{done, stands, Fit}
-use Rattle.runner.proofs.Steps.{counted}
 use Rattle.runner.proofs.Progress.{both}
 use Rattle.runner.proofs.Running as Running
 use Rattle.runner.proofs.Running.{Whole, fine-whole, Going, Here, begins, ends, next-fits, at-next, goes-on}

@@ -1,4 +1,3 @@
 -- What the contracts of `runner` cite.
 pub mod Outcome
-pub mod States
 pub mod Following

@@ -10,7 +10,8 @@ use borrow.Author.Tests.{not-true, not-false}
 use mathlib.Core.Bool.{true, false}
 use Rattle.model.specs.Arith.{plusZero, isFinite}
 use Rattle.model.specs.Run.{notFinite}
-use Rattle.runner.proofs.Tables.{getD-within, finite-all, finite-on, finite-not}
+use Rattle.state.proofs.Tables.{getD-within}
+use Rattle.runner.proofs.Tables.{finite-all, finite-on, finite-not}
 use Rattle.runner.proofs.first_not_finite.Statement.{statement}
 use Rattle.runner.proofs.first_not_finite.Tie as tie
 

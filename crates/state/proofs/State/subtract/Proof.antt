@@ -1,8 +1,8 @@
--- `runner::State::subtract` subtracts a product: the operation's answer decides.
+-- `state::State::subtract` subtracts a product: the operation's answer decides.
 use borrow.Author.Needs.{needs}
-use Rattle.runner.proofs.Steps.{answer-is}
-use Rattle.runner.proofs.State.subtract.Statement.{statement}
-use Rattle.runner.proofs.State.subtract.Tie as tie
+use Rattle.state.proofs.Steps.{answer-is}
+use Rattle.state.proofs.State.subtract.Statement.{statement}
+use Rattle.state.proofs.State.subtract.Tie as tie
 
 less-requires : tie.Need-less-requires
 less-requires c κs = search needs

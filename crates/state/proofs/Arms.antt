@@ -10,10 +10,10 @@ use Rattle.model.specs.Arith.{Answer, number, overflow, zeroDivisor, quotient}
 use Rattle.model.specs.Formula.{Table, C, Y, X, numberOf, entry, starting, less}
 use Rattle.model.specs.Check.{Kind, opens, subtracts, divides, none, kindOf}
 use Rattle.model.specs.Run as Run
-use Rattle.runner.specs.declared.State.{State}
-use Rattle.runner.specs.declared.Stepped.{Stepped}
-use Rattle.runner.specs.declared.Stepped.the-variants.{On}
-use Rattle.runner.specs.States.{tableOf, stateOf, steppedOf, opened, subtracted, dividedBy, answered, SoundStep, Sound, Allowed, Ready}
+use Rattle.state.specs.declared.State.{State}
+use Rattle.state.specs.declared.Stepped.{Stepped}
+use Rattle.state.specs.declared.Stepped.the-variants.{On}
+use Rattle.state.specs.States.{tableOf, stateOf, steppedOf, opened, subtracted, dividedBy, answered, SoundStep, Sound, Allowed, Ready}
 
 pub table-named : (t : Table) → tableOf (numberOf t) ≡ t
 table-named C = refl

@@ -1,8 +1,8 @@
--- `runner::State::divide` divides: the operation's answer decides.
+-- `state::State::divide` divides: the operation's answer decides.
 use borrow.Author.Needs.{needs}
-use Rattle.runner.proofs.Steps.{answer-is}
-use Rattle.runner.proofs.State.divide.Statement.{statement}
-use Rattle.runner.proofs.State.divide.Tie as tie
+use Rattle.state.proofs.Steps.{answer-is}
+use Rattle.state.proofs.State.divide.Statement.{statement}
+use Rattle.state.proofs.State.divide.Tie as tie
 
 quotient-requires : tie.Need-quotient-requires
 quotient-requires c κs = search needs

@@ -13,9 +13,9 @@ use Rattle.model.specs.Formula.{Table, C, Y, X, entry, closed}
 use Rattle.model.specs.Run as Run
 use Rattle.arith.specs.declared.Operation.{Operation}
 use Rattle.arith.specs.Answer.{answerOf}
-use Rattle.runner.specs.declared.State.{State}
-use Rattle.runner.specs.States.{tableOf, stateOf, answered, Sound, FreeIn, Free, Of}
-use Rattle.runner.proofs.Tables.{drop-set, getD-last}
+use Rattle.state.specs.declared.State.{State}
+use Rattle.state.specs.States.{tableOf, stateOf, answered, Sound, FreeIn, Free, Of}
+use Rattle.state.proofs.Tables.{drop-set, getD-last}
 
 -- the state after an operation, or its refusal
 pub answer-is : (r r′ : Operation) (a : Answer) (f : Float → State) → r ≡ r′ → answerOf r ≡ a → answered (answerOf r′) f ≡ answered a f

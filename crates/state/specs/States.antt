@@ -10,9 +10,9 @@ use Rattle.model.specs.Arith.{plusZero, Answer, number, overflow, zeroDivisor}
 use Rattle.model.specs.Formula.{Table, C, Y, X, numberOf}
 use Rattle.model.specs.Check.{Kind, opens, subtracts, divides, closes, closesPivot, none}
 use Rattle.model.specs.Run as Run
-use Rattle.runner.specs.declared.State.{State}
-use Rattle.runner.specs.declared.Stepped.{Stepped}
-use Rattle.runner.specs.declared.Stepped.the-variants.{On, Stop}
+use Rattle.state.specs.declared.State.{State}
+use Rattle.state.specs.declared.Stepped.{Stepped}
+use Rattle.state.specs.declared.Stepped.the-variants.{On, Stop}
 
 -- the table of a number, 1, 2 or 3
 abbrev pub tableOf : ℕ → Table

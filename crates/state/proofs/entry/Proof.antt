@@ -1,13 +1,13 @@
--- `runner::entry` is the k-th value; what the language gives past the end does not matter within it.
+-- `state::entry` is the k-th value; what the language gives past the end does not matter within it.
 use Prim.Native.Nat.{_-_}
 use native.Mathlib.Omega.{arith}
 use mathlib.Core.Path.{ap, _∙_}
 use lib.ListN.{getD}
 use Rattle.model.specs.Arith.{plusZero}
-use Rattle.runner.proofs.Tables.{getD-within}
+use Rattle.state.proofs.Tables.{getD-within}
 use borrow.Author.Needs.{needs}
-use Rattle.runner.proofs.entry.Statement.{statement}
-use Rattle.runner.proofs.entry.Tie as tie
+use Rattle.state.proofs.entry.Statement.{statement}
+use Rattle.state.proofs.entry.Tie as tie
 
 wide-requires : tie.Need-wide-requires
 wide-requires c κs = search needs

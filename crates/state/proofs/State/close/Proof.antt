@@ -1,14 +1,14 @@
--- `runner::State::close`: the open target takes the running number, in the table that it stands in.
+-- `state::State::close`: the open target takes the running number, in the table that it stands in.
 use Prim.Native.Nat.{_<_}
 use mathlib.Core.Path.{_≡_, ap}
 use native.Mathlib.Omega.{arith}
 use lib.ListN.{length}
 use Rattle.model.specs.Formula.{X}
-use Rattle.runner.specs.States.{tableOf}
-use Rattle.runner.proofs.Steps.{is-x, free-in, close-c, close-y, close-x}
+use Rattle.state.specs.States.{tableOf}
+use Rattle.state.proofs.Steps.{is-x, free-in, close-c, close-y, close-x}
 use borrow.Author.Needs.{needs}
-use Rattle.runner.proofs.State.close.Statement.{statement}
-use Rattle.runner.proofs.State.close.Tie as tie
+use Rattle.state.proofs.State.close.Statement.{statement}
+use Rattle.state.proofs.State.close.Tie as tie
 
 -- the open table has room
 free-c : (c : tie.At-match-keys1) → c .before .args .self .c < length (c .before .args .c .now)

@@ -1,4 +1,4 @@
--- `runner::step`: each kind is the model's step.
+-- `state::step`: each kind is the model's step.
 use mathlib.Core.Path.{refl, sym, ap, _∙_}
 use native.Mathlib.Omega.{arith}
 use borrow.Author.Needs.{needs}
@@ -6,11 +6,11 @@ use Rattle.model.specs.Arith.{clean}
 use Rattle.model.specs.Formula.{C, Y, X, starting}
 use Rattle.model.specs.Check.{kindOf}
 use Rattle.model.specs.Run.{going, step}
-use Rattle.runner.specs.States.{stateOf}
-use Rattle.runner.proofs.Steps.{entry-c, entry-y, entry-x}
-use Rattle.runner.proofs.Arms.{allowed-as, no-kind, gives-open, gives-subtract, gives-divide}
-use Rattle.runner.proofs.step.Statement.{statement}
-use Rattle.runner.proofs.step.Tie as tie
+use Rattle.state.specs.States.{stateOf}
+use Rattle.state.proofs.Steps.{entry-c, entry-y, entry-x}
+use Rattle.state.proofs.Arms.{allowed-as, no-kind, gives-open, gives-subtract, gives-divide}
+use Rattle.state.proofs.step.Statement.{statement}
+use Rattle.state.proofs.step.Tie as tie
 
 abbrev start : tie.After-slice-known3 → tie.Start
 start c = c .before .before .before .before .before

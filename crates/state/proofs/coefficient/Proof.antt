@@ -1,11 +1,11 @@
--- `runner::coefficient`: A(p) as it is read, or zero; `ofBits` opens the literal 0.0.
+-- `state::coefficient`: A(p) as it is read, or zero; `ofBits` opens the literal 0.0.
 use mathlib.Core.Path.{ap, _∙_}
 use lib.Ieee.{ofBits}
 use borrow.Author.Needs.{needs}
 use borrow.Author.Tests.{eq-eqb, ne-eqb}
 use Rattle.model.specs.Arith.{clean}
-use Rattle.runner.proofs.coefficient.Statement.{statement}
-use Rattle.runner.proofs.coefficient.Tie as tie
+use Rattle.state.proofs.coefficient.Statement.{statement}
+use Rattle.state.proofs.coefficient.Tie as tie
 
 entry-requires : tie.Need-entry-requires
 entry-requires c κs = search needs

@@ -1,8 +1,8 @@
--- `runner::fresh`: `ofBits` opens the literal 0.0.
+-- `state::fresh`: `ofBits` opens the literal 0.0.
 use mathlib.Core.Path.{refl}
 use lib.Ieee.{ofBits}
-use Rattle.runner.proofs.fresh.Statement.{statement}
-use Rattle.runner.proofs.fresh.Tie as tie
+use Rattle.state.proofs.fresh.Statement.{statement}
+use Rattle.state.proofs.fresh.Tie as tie
 
 returns : tie.Need-returns
 unfolding ofBits

@@ -1,0 +1,4 @@
+-- Laws about the state of a run: `runner` cites the public ones.
+pub mod Tables
+pub mod Steps
+mod Arms

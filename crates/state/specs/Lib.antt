@@ -1,0 +1,2 @@
+-- What the contracts of `state` cite.
+pub mod States
