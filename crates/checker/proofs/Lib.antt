@@ -1,6 +1,4 @@
 -- The laws that the proofs of `checker` share.
-pub mod Judging
-pub mod Right
 pub mod Sources
 pub mod Turns
 pub mod Whole

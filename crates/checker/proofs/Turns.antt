@@ -10,10 +10,11 @@ use borrow.Author.Tests.{ltb-true, eq-eqb, ne-eqb}
 use Rattle.model.specs.Check as Check
 use Rattle.model.specs.Check.{word, nextOf, whole, broken, Link, End, Chain, Verdict, refusal, kindOf, formed, inOrder, inTurn, onward, atEnd, checkLinks}
 use Rattle.model.proofs.Following.{chainFrom, chain-from, chain-ends, chain-breaks, chain-goes, check-ended, check-link}
-use Rattle.checker.specs.declared.Head.{Head}
-use Rattle.checker.specs.declared.Progress.{Progress}
-use Rattle.checker.specs.Steps.{progressOf, total, firstOf, refusalOf, followed}
-use Rattle.checker.proofs.Judging.{onward-total}
+use Rattle.progress.specs.declared.Head.{Head}
+use Rattle.progress.specs.declared.Progress.{Progress}
+use Rattle.progress.specs.Steps.{progressOf, total, firstOf, refusalOf}
+use Rattle.checker.specs.Whole.{followed}
+use Rattle.progress.proofs.Judging.{onward-total}
 
 -- what follows a record k that is refused by r, or not if r is 0
 abbrev unless : ℕ → ℕ → Verdict → Verdict

@@ -8,8 +8,8 @@ use lib.ListN.{length}
 use borrow.Author.Tests.{ltb-true, leb-true, eqb-true, eq-eqb, ne-eqb}
 use Rattle.model.specs.Check.{word, Verdict, refusal, check}
 use Rattle.model.specs.File.{wordsOf, checkFile}
-use Rattle.checker.specs.declared.Head.{Head}
-use Rattle.checker.specs.Steps.{countFits, headFits, followed}
+use Rattle.progress.specs.declared.Head.{Head}
+use Rattle.checker.specs.Whole.{countFits, headFits, followed}
 
 pub count-true : (n : ℕ) → countFits n ≡ true → (0 < n) × ((n % 4 ≡ 0) × (n / 4 ≤ 100000000))
 count-true n e =

@@ -1,4 +1,4 @@
 -- What the contracts of `checker` cite.
 pub mod Checked
 pub mod Source
-pub mod Steps
+pub mod Whole

@@ -1,32 +1,23 @@
 // A program's words, or a file's bytes, against checks 7 to 13: document 01, "Where each refusal is checked". One pass, no memory.
+use progress::Head;
+use progress::Progress;
 ghost use mathlib.Core.Path.{_≡_};
 ghost use mathlib.Core.Bool.{_&&_};
-ghost use Prim.Native.Nat.{_+_, _*_, _/_, _%_, _≤_, _<_};
-ghost use lib.Dec.{ltb, eqb};
+ghost use Prim.Native.Nat.{_+_, _*_, _≤_, _<_};
+ghost use lib.Dec.{ltb};
 ghost use lib.ListN.{length};
-ghost use Rattle.model.specs.Label.{within as Label·within};
-ghost use Rattle.model.specs.Formula.{C, Y, X};
-ghost use Rattle.model.specs.Check.{word, idle, opens, kindOf, inTurn, counted, whole, atEnd};
+ghost use Rattle.model.specs.Check.{word, whole, atEnd};
 ghost use Rattle.model.specs.Check.{check as Check·check};
-ghost use Rattle.model.specs.Check.{complete as Check·complete};
-ghost use Rattle.model.specs.Check.{begun as Check·begun};
-ghost use Rattle.model.specs.Check.{onward as Check·onward};
 ghost use Rattle.model.specs.File.{wordsOf, checkFile};
+ghost use Rattle.progress.specs.Steps.{progressOf};
 ghost use Rattle.checker.specs.Checked.{verdictOf};
 ghost use Rattle.checker.specs.Source.{content, recordOf};
-ghost use Rattle.checker.specs.Steps.{openOf, openNumber, progressOf, total, firstOf, refusalOf, rightIn, countFits, headFits, followed};
+ghost use Rattle.checker.specs.Whole.{countFits, headFits, followed};
 
 // What a check answers: nothing wrong, or a refusal's number and its detail.
 pub enum Checked {
     Fine,
     Refused { number: u32, detail: u64 },
-}
-
-// Record 0: N, n and s.
-struct Head {
-    order: u32,
-    coefficients: u32,
-    slots: u32,
 }
 
 // A record's four words.
@@ -35,22 +26,6 @@ struct Record {
     p: u32,
     q: u32,
     next: u32,
-}
-
-// What is open.
-enum Target {
-    Nothing,
-    C,
-    Y,
-    X,
-}
-
-// What is open, and how many entries of C, Y and X are closed.
-struct Progress {
-    target: Target,
-    c: u32,
-    y: u32,
-    x: u32,
 }
 
 // Checks 7 to 13 of a program.
@@ -117,7 +92,7 @@ fn head_fits(h: Head) -> bool
     ensures { λ r. ⌜ r ≡ headFits (h .order) (h .coefficients) (h .slots) ⌝ }
 {
     let n = h.order;
-    within(n, 600) && (h.coefficients <= n * n && (n <= h.slots && h.slots <= n * n))
+    progress::within(n, 600) && (h.coefficients <= n * n && (n <= h.slots && h.slots <= n * n))
 }
 
 // The records along the chain, and its end. In the inner loop each is the one that follows the last, so that it is read without waiting
@@ -126,7 +101,7 @@ fn follow(words: &[u32], bytes: &[u8], filed: bool, h: Head, records: usize) -> 
     requires { ⌜ (0 < records) × ((records ≤ 100000000) × (4 * records ≡ length (content filed (now words) (now bytes)))) ⌝ }
     ensures { λ r. ⌜ verdictOf r ≡ followed h (content filed (now (words .entry)) (now (bytes .entry))) ⌝ }
 {
-    let mut g = begun();
+    let mut g = progress::begun();
     let mut k = 0;
     loop {
         let mut next = wide(record_at(words, bytes, filed, k).next);
@@ -142,13 +117,13 @@ fn follow(words: &[u32], bytes: &[u8], filed: bool, h: Head, records: usize) -> 
         loop {
             let r = record_at(words, bytes, filed, next);
             let following = next + 1;
-            if !is_right(h, g, r.kind, r.p, r.q) {
+            if !progress::is_right(h, g, r.kind, r.p, r.q) {
                 return Checked::Refused {
-                    number: judge(h, g, r.kind, r.p, r.q),
+                    number: progress::judge(h, g, r.kind, r.p, r.q),
                     detail: next as u64,
                 };
             }
-            g = onward(r.kind, g);
+            g = progress::onward(r.kind, g);
             k = next;
             if records <= following {
                 break;
@@ -235,220 +210,11 @@ fn wide(x: u32) -> usize
     x as usize
 }
 
-// Whether k lies in 1..n.
-fn within(k: u32, n: u32) -> bool
-    ensures { λ r. ⌜ r ≡ Label·within k n ⌝ }
-{
-    0 < k && k <= n
-}
-
-// Nothing is open, and nothing closed.
-fn begun() -> Progress
-    ensures { λ r. ⌜ progressOf r ≡ Check·begun ⌝ }
-{
-    Progress {
-        target: Target::Nothing,
-        c: 0,
-        y: 0,
-        x: 0,
-    }
-}
-
-// Whether a record is refused by none of 10 to 12. What is open is asked first, which leaves few kinds: a right record passes by three or four
-// tests, and `judge`, by kinds, is left to name what is wrong.
-fn is_right(h: Head, g: Progress, kind: u32, p: u32, q: u32) -> bool
-    requires { ⌜ total (progressOf g) ≤ 100000000 ⌝ }
-    ensures { λ v. ⌜ v ≡ rightIn h g kind p q ⌝ }
-{
-    let target = g.target;
-    let open = open_number(target);
-    if open == 0 {
-        return opens_rightly(h, g, kind, p, q);
-    }
-    if kind == open + 3 {
-        return readable(h, g, kind, p, q);
-    }
-    if kind == 7 {
-        return q == 0 && within(p, g.c);
-    }
-    if kind == 8 {
-        return unused(p, q);
-    }
-    kind == 9 && (open == 1 && unused(p, q))
-}
-
-// The same while nothing is open: only kinds 1 to 3 are right.
-fn opens_rightly(h: Head, g: Progress, kind: u32, p: u32, q: u32) -> bool
-    requires { ⌜ (openOf (g .target) ≡ idle) × (total (progressOf g) ≤ 100000000) ⌝ }
-    ensures { λ v. ⌜ v ≡ rightIn h g kind p q ⌝ }
-{
-    if kind == 1 {
-        return turn_of_c(h, g, p, q);
-    }
-    if kind == 2 {
-        return q == 0 && turn_of_y(h, g, p);
-    }
-    if kind == 3 {
-        return q == 0 && turn_of_x(h, g, p);
-    }
-    false
-}
-
-// The number of a record's refusal, 10 to 12, or 0.
-fn judge(h: Head, g: Progress, kind: u32, p: u32, q: u32) -> u32
-    requires { ⌜ total (progressOf g) ≤ 100000000 ⌝ }
-    ensures { λ r. ⌜ r ≡ refusalOf h g kind p q ⌝ }
-{
-    let target = g.target;
-    let open = open_number(target);
-    match kind {
-        1 => first_of(true, open == 0, turn_of_c(h, g, p, q)),
-        2 => first_of(q == 0, open == 0, turn_of_y(h, g, p)),
-        3 => first_of(q == 0, open == 0, turn_of_x(h, g, p)),
-        4 | 5 | 6 => first_of(true, open == kind - 3, readable(h, g, kind, p, q)),
-        7 => first_of(q == 0, open != 0, within(p, g.c)),
-        8 => first_of(unused(p, q), open != 0, true),
-        9 => first_of(unused(p, q), open == 1, true),
-        0 | 10..=u32::MAX => 10,
-    }
-}
-
-// 10, then 11, then 12, by the tests that a kind makes; 0 if all hold.
-fn first_of(formed: bool, ordered: bool, turned: bool) -> u32
-    ensures { λ r. ⌜ r ≡ firstOf formed ordered turned ⌝ }
-{
-    if !formed {
-        return 10;
-    }
-    if !ordered {
-        return 11;
-    }
-    if !turned {
-        return 12;
-    }
-    0
-}
-
-// The progress after a record: kinds 1 to 3 open a target, 8 and 9 close it.
-fn onward(kind: u32, g: Progress) -> Progress
-    requires { ⌜ total (progressOf g) ≤ 100000000 ⌝ }
-    ensures { λ r. ⌜ progressOf r ≡ Check·onward (kindOf kind) (progressOf g) ⌝ }
-{
-    match kind {
-        1 => opened(g, Target::C),
-        2 => opened(g, Target::Y),
-        3 => opened(g, Target::X),
-        8 | 9 => closed(g),
-        _ => g,
-    }
-}
-
-// The number of the open table, 0 if none is open.
-fn open_number(target: Target) -> u32
-    ensures { λ r. ⌜ r ≡ openNumber (openOf target) ⌝ }
-{
-    match target {
-        Target::Nothing => 0,
-        Target::C => 1,
-        Target::Y => 2,
-        Target::X => 3,
-    }
-}
-
-// 10 of kinds 8 and 9: both operands are 0.
-fn unused(p: u32, q: u32) -> bool
-    ensures { λ r. ⌜ r ≡ (eqb p 0 && eqb q 0) ⌝ }
-{
-    p == 0 && q == 0
-}
-
-// 12 of kind 1: C(q) opens after the closed ones, with A(p), or with zero if p is 0.
-fn turn_of_c(h: Head, g: Progress, p: u32, q: u32) -> bool
-    requires { ⌜ total (progressOf g) ≤ 100000000 ⌝ }
-    ensures { λ r. ⌜ r ≡ inTurn (h .order) (h .coefficients) (h .slots) (opens C) p q (progressOf g) ⌝ }
-{
-    p <= h.coefficients && (q == g.c + 1 && q <= h.slots)
-}
-
-// 12 of kind 2: Y(p) opens after the closed ones.
-fn turn_of_y(h: Head, g: Progress, p: u32) -> bool
-    requires { ⌜ total (progressOf g) ≤ 100000000 ⌝ }
-    ensures { λ r. ⌜ r ≡ inTurn (h .order) (h .coefficients) (h .slots) (opens Y) p 0 (progressOf g) ⌝ }
-{
-    p == g.y + 1 && p <= h.order
-}
-
-// 12 of kind 3: X(p) opens below the closed ones, with Y(p), which is closed.
-fn turn_of_x(h: Head, g: Progress, p: u32) -> bool
-    requires { ⌜ total (progressOf g) ≤ 100000000 ⌝ }
-    ensures { λ r. ⌜ r ≡ inTurn (h .order) (h .coefficients) (h .slots) (opens X) p 0 (progressOf g) ⌝ }
-{
-    let order = h.order;
-    let x = g.x;
-    within(p, g.y) && p + x == order
-}
-
-// 12 of kinds 4 to 6: C(p) is closed, and so is C(q), Y(q) or X(q).
-fn readable(h: Head, g: Progress, kind: u32, p: u32, q: u32) -> bool
-    requires { ⌜ (4 ≤ kind) × (kind ≤ 6) ⌝ }
-    ensures { λ r. ⌜ r ≡ inTurn (h .order) (h .coefficients) (h .slots) (kindOf kind) p q (progressOf g) ⌝ }
-{
-    if !within(p, g.c) {
-        return false;
-    }
-    match kind {
-        4 => within(q, g.c),
-        5 => within(q, g.y),
-        _ => within(q, h.order) && h.order - q < g.x,
-    }
-}
-
-// The target is open.
-fn opened(g: Progress, target: Target) -> Progress
-    ensures { λ r. ⌜ progressOf r ≡ record { target = openOf target; c = g .c; y = g .y; x = g .x } ⌝ }
-{
-    Progress {
-        target,
-        c: g.c,
-        y: g.y,
-        x: g.x,
-    }
-}
-
-// One entry more of the open table is closed, and none is open.
-fn closed(g: Progress) -> Progress
-    requires { ⌜ total (progressOf g) ≤ 100000000 ⌝ }
-    ensures { λ r. ⌜ progressOf r ≡ counted (openOf (g .target)) (progressOf g) ⌝ }
-{
-    let target = g.target;
-    match target {
-        Target::Nothing => g,
-        Target::C => Progress {
-            target: Target::Nothing,
-            c: g.c + 1,
-            y: g.y,
-            x: g.x,
-        },
-        Target::Y => Progress {
-            target: Target::Nothing,
-            c: g.c,
-            y: g.y + 1,
-            x: g.x,
-        },
-        Target::X => Progress {
-            target: Target::Nothing,
-            c: g.c,
-            y: g.y,
-            x: g.x + 1,
-        },
-    }
-}
-
 // 13 at the end of a chain.
 fn at_end(h: Head, g: Progress) -> Checked
     ensures { λ r. ⌜ verdictOf r ≡ atEnd (h .order) (h .slots) (progressOf g) whole ⌝ }
 {
-    if complete(h, g) {
+    if progress::complete(h, g) {
         Checked::Fine
     } else {
         Checked::Refused {
@@ -456,15 +222,4 @@ fn at_end(h: Head, g: Progress) -> Checked
             detail: 0,
         }
     }
-}
-
-// Nothing is open, and C, Y and X are all closed.
-fn complete(h: Head, g: Progress) -> bool
-    ensures { λ r. ⌜ r ≡ Check·complete (h .order) (h .slots) (progressOf g) ⌝ }
-{
-    let order = h.order;
-    let slots = h.slots;
-    let target = g.target;
-    let open = open_number(target);
-    open == 0 && (g.c == slots && (g.y == order && g.x == order))
 }

@@ -8,7 +8,7 @@ use lib.ListN.{length}
 use borrow.Author.Needs.{needs}
 use borrow.Author.Tests.{not-true, not-false}
 use Rattle.checker.specs.Source.{content}
-use Rattle.checker.specs.Steps.{countFits}
+use Rattle.checker.specs.Whole.{countFits}
 use Rattle.checker.proofs.Whole.{count-true, headOf, refused-7, refused-8, chain-checked}
 use Rattle.checker.proofs.check_either.Statement.{statement}
 use Rattle.checker.proofs.check_either.Tie as tie

@@ -7,7 +7,7 @@ use borrow.Author.Needs.{needs}
 use borrow.Author.Tests.{not-true, not-false, eqb-true, eqb-false}
 use Rattle.model.specs.Check.{nextOf, refusal, kindOf, onward}
 use Rattle.checker.specs.Source.{content}
-use Rattle.checker.specs.Steps.{progressOf, refusalOf}
+use Rattle.progress.specs.Steps.{progressOf, refusalOf}
 use Rattle.checker.proofs.Turns.{Going, Facing, Turn, next-true, begins, ends, breaks, goes-on, stops}
 use Rattle.checker.proofs.follow.Statement.{statement}
 use Rattle.checker.proofs.follow.Tie as tie

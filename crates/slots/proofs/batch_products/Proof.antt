@@ -1,4 +1,4 @@
--- `fill::batch_products` counts the products of a batch.
+-- `slots::batch_products` counts the products of a batch.
 use Prim.Native.Nat.{_*_, _≤_}
 use native.Mathlib.Nat.{mul-le-mul}
 use native.Mathlib.Omega.{arith}

@@ -1,4 +1,4 @@
--- `fill::both_used` tests both numbers.
+-- `slots::both_used` tests both numbers.
 use borrow.Author.Tests.{lt-ltb, le-ltb}
 use borrow.Author.Needs.{needs}
 use Rattle.slots.proofs.both_used.Statement.{statement}

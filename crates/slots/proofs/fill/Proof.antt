@@ -1,4 +1,4 @@
--- `fill::fill` goes through the batches. The invariant: the batches before m are done, their pivots held, and their products counted.
+-- `slots::fill` goes through the batches. The invariant: the batches before m are done, their pivots held, and their products counted.
 -- The measure is the batches left.
 use Prim.Native.Nat.{suc, _+_, _-_, _*_, _≤_, _<_}
 use native.Mathlib.Nat.{mul-le-mul}

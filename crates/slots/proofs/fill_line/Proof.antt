@@ -1,4 +1,4 @@
--- `fill::fill_line` settles the places of a line. The invariant along it: the places before the t-th are done; of the search: no h before the present one
+-- `slots::fill_line` settles the places of a line. The invariant along it: the places before the t-th are done; of the search: no h before the present one
 -- gives a pair. The measures are what is left of the line, and of the search.
 use Prim.Native.Nat.{suc, _-_, _<_}
 use native.Mathlib.Numerals.{add-one}

@@ -1,4 +1,4 @@
--- `fill::index_of` gives the index of a place that is wanted.
+-- `slots::index_of` gives the index of a place that is wanted.
 use Prim.Native.Nat.{ℕ, _≤_}
 use native.Mathlib.Omega.{arith}
 use mathlib.Core.Path.{_≡_, sym, _∙_}

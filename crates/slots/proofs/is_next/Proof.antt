@@ -1,4 +1,4 @@
--- `fill::is_next` tests the label at the position reached.
+-- `slots::is_next` tests the label at the position reached.
 use native.Mathlib.Numerals.{add-one}
 use borrow.Author.Tests.{lt-ltb, le-ltb}
 use borrow.Author.Needs.{needs}

@@ -1,4 +1,4 @@
--- `fill::next_passed` passes one label more, if the place is in the plan.
+-- `slots::next_passed` passes one label more, if the place is in the plan.
 use native.Mathlib.Omega.{arith}
 use borrow.Author.Needs.{needs}
 use Rattle.slots.proofs.next_passed.Statement.{statement}

@@ -1,4 +1,4 @@
--- `fill::note` keeps the smaller of two numbers.
+-- `slots::note` keeps the smaller of two numbers.
 use Rattle.slots.proofs.Notes.{note-less, note-more}
 use denote.Ref.{now}
 use borrow.Author.Needs.{needs}

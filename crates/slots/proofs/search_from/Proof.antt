@@ -1,4 +1,4 @@
--- `fill::search_from` gives where a search starts.
+-- `slots::search_from` gives where a search starts.
 use native.Mathlib.Omega.{arith}
 use borrow.Author.Needs.{needs}
 use Rattle.slots.proofs.search_from.Statement.{statement}

@@ -1,4 +1,4 @@
--- `fill::settle` gives the next place its work number, and notes it in its row and column if it is held.
+-- `slots::settle` gives the next place its work number, and notes it in its row and column if it is held.
 use native.Mathlib.Omega.{arith}
 use mathlib.Core.Path.{ap}
 use borrow.Author.Needs.{needs}

@@ -1,4 +1,4 @@
--- `write::closing` answers 9 for a pivot, and else 8.
+-- `writer::closing` answers 9 for a pivot, and else 8.
 use borrow.Author.Tests.{eq-eqb, ne-eqb}
 use Rattle.writer.proofs.closing.Statement.{statement}
 use Rattle.writer.proofs.closing.Tie as tie

@@ -1,4 +1,4 @@
--- `write::divide` writes the division's record where there is a divisor, and else nothing.
+-- `writer::divide` writes the division's record where there is a divisor, and else nothing.
 use borrow.Author.Needs.{needs}
 use borrow.Author.Tests.{eq-eqb, ne-eqb}
 use Rattle.writer.proofs.Written.{wrote-none}

@@ -1,4 +1,4 @@
--- `write::position` answers one more than the labels passed where the next label of the plan is the one sought, and else 0.
+-- `writer::position` answers one more than the labels passed where the next label of the plan is the one sought, and else 0.
 use denote.Ref.{now}
 use Rattle.writer.proofs.Line.{position-here, position-other, position-past}
 use borrow.Author.Needs.{needs}
@@ -18,7 +18,9 @@ add-result : tie.Need-add-result
 add-result c = search needs
 
 returns : tie.Need-returns
-returns c = position-here (now (c .before .before .before .before .before .args .plan)) _ _ _ (c .before .before .before .wide .ensures) (c .before .before .if1 .taken) (c .if2 .taken)
+returns c =
+    let start = c .before .before .before .before .before in
+    position-here (now (start .args .plan)) _ _ _ (c .before .before .before .wide .ensures) (c .before .before .if1 .taken) (c .if2 .taken)
 
 returns-2 : tie.Need-returns-2
 returns-2 c = position-other (now (c .before .before .before .before .before .args .plan)) _ _ _ (c .before .before .before .wide .ensures) (c .if2 .left)

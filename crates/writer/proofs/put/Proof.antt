@@ -1,4 +1,4 @@
--- `write::put` sets the four words of one record.
+-- `writer::put` sets the four words of one record.
 use borrow.Author.Needs.{needs}
 use native.Mathlib.Omega.{arith}
 use Prim.Native.Nat.{_*_}

@@ -1,4 +1,4 @@
--- `write::subtract` writes a product's record where both factors have a work number, and else nothing.
+-- `writer::subtract` writes a product's record where both factors have a work number, and else nothing.
 use borrow.Author.Needs.{needs}
 use mathlib.Core.Logic.{inl, inr}
 use Rattle.writer.proofs.Written.{wrote-none, product-kept, product-left-out}
@@ -18,7 +18,10 @@ same-length : tie.Need-same-length
 same-length c = search needs
 
 returns-3 : tie.Need-returns-3
-returns-3 c = rw (product-kept _ _ _ (c .before .before .before .before .before .if1 .left) (c .before .before .before .before .if2 .left)) (c .before .before .put .ensures)
+returns-3 c =
+    let if1 = c .before .before .before .before .before .if1 in
+    let if2 = c .before .before .before .before .if2 in
+    rw (product-kept _ _ _ (if1 .left) (if2 .left)) (c .before .before .put .ensures)
 
 pub subtract-spec : {M : Type 1} → statement M
 subtract-spec = tie.close (tie.spec returns returns-2 put-requires same-length returns-3)

@@ -1,4 +1,4 @@
--- `write::write_batches` writes the batches. The invariant: those from m on are left to write. The measure is how many are left.
+-- `writer::write_batches` writes the batches. The invariant: those from m on are left to write. The measure is how many are left.
 use Prim.Native.Nat.{suc, _-_}
 use native.Mathlib.Numerals.{add-one}
 use native.Mathlib.Omega.{arith}
@@ -18,10 +18,15 @@ abbrev μ-loop : tie.MeasureT-loop
 μ-loop n plan work rows columns words₀ at₀ m₀ words at m = suc n - m
 
 loop-holds : tie.Need-loop-holds Inv-loop μ-loop
-loop-holds c = (rising-starts _ _ _ _ _ _ (c .before .before .before .before .before .pre .1), record { here = sym (label-first _); passed = sym (passed-none _ _ (c .before .before .before .before .before .pre .0 .rises)) })
+loop-holds c =
+    let start = c .before .before .before .before .before in
+    (rising-starts _ _ _ _ _ _ (start .pre .1), record { here = sym (label-first _); passed = sym (passed-none _ _ (start .pre .0 .rises)) })
 
 write-batch-requires : tie.Need-write-batch-requires Inv-loop μ-loop
-write-batch-requires c κs = ((c .before .before .before .before .before .before .before .before .pre .0), (omega arith, (c .before .before .loop .inv .1, rising-room _ _ _ _ _ _ _ _ _ (c .before .before .loop .inv .0) (omega arith))))
+write-batch-requires c κs =
+    let start = c .before .before .before .before .before .before .before .before in
+    let loop = c .before .before .loop in
+    (start .pre .0, (omega arith, (loop .inv .1, rising-room _ _ _ _ _ _ _ _ _ (loop .inv .0) (omega arith))))
 
 add-m : tie.Need-add-m Inv-loop μ-loop
 add-m c = omega arith
@@ -30,7 +35,10 @@ loop-less : tie.Need-loop-less Inv-loop μ-loop
 loop-less c = omega arith
 
 loop-again : tie.Need-loop-again Inv-loop μ-loop
-loop-again c = (rising-more _ _ _ _ _ _ _ _ _ (c .before .before .before .before .before .loop .inv .0) _ _ (omega arith) (c .before .before .write-batch .ensures .0), rw add-one (c .before .before .write-batch .ensures .1))
+loop-again c =
+    let loop = c .before .before .before .before .before .loop in
+    let write-batch = c .before .before .write-batch in
+    (rising-more _ _ _ _ _ _ _ _ _ (loop .inv .0) _ _ (omega arith) (write-batch .ensures .0), rw add-one (write-batch .ensures .1))
 
 returns : tie.Need-returns Inv-loop μ-loop
 returns c = rising-ends _ _ _ _ _ _ _ _ _ (c .before .loop .inv .0) (omega arith)

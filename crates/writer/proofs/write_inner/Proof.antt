@@ -1,4 +1,4 @@
--- `write::write_inner` writes the products of place (i, j). The invariant: those from h on are left to write, and across and down are the labels of
+-- `writer::write_inner` writes the products of place (i, j). The invariant: those from h on are left to write, and across and down are the labels of
 -- (i, h) and (h, j). The measure is how many h are left.
 use Prim.Native.Nat.{_<_, _-_, min}
 use native.Mathlib.Omega.{arith}
@@ -13,7 +13,8 @@ use Rattle.writer.proofs.write_inner.Statement.{statement}
 use Rattle.writer.proofs.write_inner.Tie as tie
 
 abbrev Inv-loop : tie.InvT-loop
-Inv-loop n work rest₀ first k i j from end next₀ h₀ across₀ down₀ rest next h across down = (end ≡ min i j) × Rising (innerAt n work i j) 1 first k (min i j) rest₀ next h rest × (h < end → across ≡ label n i h) × (h < end → down ≡ label n h j)
+Inv-loop n work rest₀ first k i j from end next₀ h₀ across₀ down₀ rest next h across down =
+    (end ≡ min i j) × Rising (innerAt n work i j) 1 first k (min i j) rest₀ next h rest × (h < end → across ≡ label n i h) × (h < end → down ≡ label n h j)
 
 abbrev μ-loop : tie.MeasureT-loop
 μ-loop n work rest₀ first k i j from end next₀ h₀ across₀ down₀ rest next h across down = end - h
@@ -37,15 +38,26 @@ wide-requires-2 : tie.Need-wide-requires-2 Inv-loop μ-loop
 wide-requires-2 c κs = search needs
 
 loop-holds : tie.Need-loop-holds Inv-loop μ-loop
-loop-holds c = (c .before .before .before .before .before .earlier .ensures, rw (c .before .before .before .before .later .ensures) (rising-skips _ _ _ _ _ _ (c .before .before .before .before .before .before .before .before .pre .1 .1 .0) (c .before .before .before .before .before .before .before .before .pre .1 .1 .1)), (λ below. c .before .before .wide .ensures ∙ (c .before .before .before .label .ensures ∙ label-answered _ _ _ _ (c .before .before .before .before .before .before .before .before .pre .0) (omega arith))), λ below. c .wide2 .ensures ∙ (c .before .label2 .ensures ∙ label-answered _ _ _ _ (c .before .before .before .before .before .before .before .before .pre .0) (omega arith)))
+loop-holds c =
+    let start = c .before .before .before .before .before .before .before .before in
+    let earlier = c .before .before .before .before .before .earlier in
+    let later = c .before .before .before .before .later in
+    (earlier .ensures,
+    rw (later .ensures) (rising-skips _ _ _ _ _ _ (start .pre .1 .1 .0) (start .pre .1 .1 .1)),
+    (λ below. c .before .before .wide .ensures ∙ (c .before .before .before .label .ensures ∙ label-answered _ _ _ _ (start .pre .0) (omega arith))),
+    λ below. c .wide2 .ensures ∙ (c .before .label2 .ensures ∙ label-answered _ _ _ _ (start .pre .0) (omega arith)))
 
 row : (c : tie.In-loop Inv-loop μ-loop)
-    → Stands (c .before .before .before .before .before .before .before .before .before .before .args .n) (now (c .before .before .before .before .before .before .before .before .before .before .args .work)) (c .before .before .before .before .before .before .before .before .before .before .args .i) (c .before .loop .h) (c .before .loop .across)
-row c = stands _ _ _ _ _ (c .before .before .before .before .before .before .before .before .before .before .pre .0) (omega arith) (c .before .loop .inv .2 (c .loop-test .taken))
+    → let a = c .before .before .before .before .before .before .before .before .before .before .args in Stands (a .n) (now (a .work)) (a .i) (c .before .loop .h) (c .before .loop .across)
+row c =
+    let start = c .before .before .before .before .before .before .before .before .before .before in
+    stands _ _ _ _ _ (start .pre .0) (omega arith) (c .before .loop .inv .2 (c .loop-test .taken))
 
 column : (c : tie.In-loop Inv-loop μ-loop)
-    → Stands (c .before .before .before .before .before .before .before .before .before .before .args .n) (now (c .before .before .before .before .before .before .before .before .before .before .args .work)) (c .before .loop .h) (c .before .before .before .before .before .before .before .before .before .before .args .j) (c .before .loop .down)
-column c = stands _ _ _ _ _ (c .before .before .before .before .before .before .before .before .before .before .pre .0) (omega arith) (c .before .loop .inv .3 (c .loop-test .taken))
+    → let a = c .before .before .before .before .before .before .before .before .before .before .args in Stands (a .n) (now (a .work)) (c .before .loop .h) (a .j) (c .before .loop .down)
+column c =
+    let start = c .before .before .before .before .before .before .before .before .before .before in
+    stands _ _ _ _ _ (start .pre .0) (omega arith) (c .before .loop .inv .3 (c .loop-test .taken))
 
 sub-subtract : tie.Need-sub-subtract Inv-loop μ-loop
 sub-subtract c = omega (arith, row (c .before))
@@ -66,7 +78,10 @@ shared-slice-read-subtract-2 : tie.Need-shared-slice-read-subtract-2 Inv-loop μ
 shared-slice-read-subtract-2 c = omega (arith, column (c .before .before .before))
 
 subtract-requires : tie.Need-subtract-requires Inv-loop μ-loop
-subtract-requires c κs = rw (inner-at (row (c .before .before .before)) (column (c .before .before .before))) at (rising-room _ _ _ _ _ _ _ _ _ (c .before .before .before .before .loop .inv .1) (omega arith))
+subtract-requires c κs =
+    let loop = c .before .before .before .before .loop in
+    let turn = c .before .before .before in
+    rw (inner-at (row turn) (column turn)) at (rising-room _ _ _ _ _ _ _ _ _ (loop .inv .1) (omega arith))
 
 sub-wide : tie.Need-sub-wide Inv-loop μ-loop
 sub-wide c = omega arith
@@ -93,7 +108,13 @@ loop-less : tie.Need-loop-less Inv-loop μ-loop
 loop-less c = omega arith
 
 loop-again : tie.Need-loop-again Inv-loop μ-loop
-loop-again c = (c .before .before .before .before .before .before .before .before .loop .inv .0, rising-more _ _ _ _ _ _ _ _ _ (c .before .before .before .before .before .before .before .before .loop .inv .1) _ _ (omega arith) (rw (← inner-at (row (c .before .before .before .before .before .before .before)) (column (c .before .before .before .before .before .before .before))) at (c .before .before .before .subtract .ensures)), (λ below. label-across _ _ _ _ _ (row (c .before .before .before .before .before .before .before) .is) (c .wide3 .ensures) (omega arith) (omega arith) (omega arith)), λ below. label-downward _ _ _ _ _ (column (c .before .before .before .before .before .before .before) .is) (c .wide3 .ensures) (omega arith) (omega arith) (omega arith))
+loop-again c =
+    let loop = c .before .before .before .before .before .before .before .before .loop in
+    let turn = c .before .before .before .before .before .before .before in
+    (loop .inv .0,
+    rising-more _ _ _ _ _ _ _ _ _ (loop .inv .1) _ _ (omega arith) (rw (← inner-at (row turn) (column turn)) at (c .before .before .before .subtract .ensures)),
+    (λ below. label-across _ _ _ _ _ (row turn .is) (c .wide3 .ensures) (omega arith) (omega arith) (omega arith)),
+    λ below. label-downward _ _ _ _ _ (column turn .is) (c .wide3 .ensures) (omega arith) (omega arith) (omega arith))
 
 returns : tie.Need-returns Inv-loop μ-loop
 returns c = rising-ends _ _ _ _ _ _ _ _ _ (c .before .loop .inv .1) (omega arith)

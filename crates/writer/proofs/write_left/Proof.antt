@@ -1,4 +1,4 @@
--- `write::write_left` writes y(m)'s products. The invariant: those from h on are left to write, and across is the label of (m, h). The measure is
+-- `writer::write_left` writes y(m)'s products. The invariant: those from h on are left to write, and across is the label of (m, h). The measure is
 -- how many h are left.
 use Prim.Native.Nat.{_<_, _-_}
 use native.Mathlib.Omega.{arith}
@@ -28,10 +28,13 @@ wide-requires : tie.Need-wide-requires Inv-loop μ-loop
 wide-requires c κs = search needs
 
 loop-holds : tie.Need-loop-holds Inv-loop μ-loop
-loop-holds c = (rw (c .before .before .later .ensures) (rising-skips _ _ _ _ _ _ (c .before .before .before .before .before .pre .1 .1 .0) (c .before .before .before .before .before .pre .1 .1 .1)), λ below. c .wide .ensures ∙ (c .before .label .ensures ∙ label-answered _ _ _ _ (c .before .before .before .before .before .pre .0) (omega arith)))
+loop-holds c =
+    let start = c .before .before .before .before .before in
+    (rw (c .before .before .later .ensures) (rising-skips _ _ _ _ _ _ (start .pre .1 .1 .0) (start .pre .1 .1 .1)),
+    λ below. c .wide .ensures ∙ (c .before .label .ensures ∙ label-answered _ _ _ _ (start .pre .0) (omega arith)))
 
 here : (c : tie.In-loop Inv-loop μ-loop)
-    → Stands (c .before .before .before .before .before .before .before .args .n) (now (c .before .before .before .before .before .before .before .args .work)) (c .before .before .before .before .before .before .before .args .m) (c .before .loop .h) (c .before .loop .across)
+    → let a = c .before .before .before .before .before .before .before .args in Stands (a .n) (now (a .work)) (a .m) (c .before .loop .h) (c .before .loop .across)
 here c = stands _ _ _ _ _ (c .before .before .before .before .before .before .before .pre .0) (omega arith) (c .before .loop .inv .1 (c .loop-test .taken))
 
 sub-subtract : tie.Need-sub-subtract Inv-loop μ-loop
@@ -65,7 +68,12 @@ loop-less : tie.Need-loop-less Inv-loop μ-loop
 loop-less c = omega arith
 
 loop-again : tie.Need-loop-again Inv-loop μ-loop
-loop-again c = (rising-more _ _ _ _ _ _ _ _ _ (c .before .before .before .before .before .before .before .loop .inv .0) _ _ (c .before .before .before .before .before .before .loop-test .taken) (rw (← forward-at (here (c .before .before .before .before .before .before))) at (c .before .before .before .subtract .ensures)), λ below. label-across _ _ _ _ _ (here (c .before .before .before .before .before .before) .is) (c .wide2 .ensures) (omega arith) (omega arith) (omega arith))
+loop-again c =
+    let loop = c .before .before .before .before .before .before .before .loop in
+    let loop-test = c .before .before .before .before .before .before .loop-test in
+    let turn = c .before .before .before .before .before .before in
+    (rising-more _ _ _ _ _ _ _ _ _ (loop .inv .0) _ _ (loop-test .taken) (rw (← forward-at (here turn)) at (c .before .before .before .subtract .ensures)),
+    λ below. label-across _ _ _ _ _ (here turn .is) (c .wide2 .ensures) (omega arith) (omega arith) (omega arith))
 
 returns : tie.Need-returns Inv-loop μ-loop
 returns c = rising-ends _ _ _ _ _ _ _ _ _ (c .before .loop .inv .0) (c .loop-test .left)

@@ -1,4 +1,4 @@
--- `write::write_next` writes nothing where the next place isn't held, and else its formula, into the rest of the words.
+-- `writer::write_next` writes nothing where the next place isn't held, and else its formula, into the rest of the words.
 use native.Mathlib.Numerals.{add-one}
 use native.Mathlib.Omega.{arith}
 use mathlib.Core.Path.{_≡_, ap, _∙_}
@@ -21,16 +21,26 @@ mul-slot : tie.Need-mul-slot
 mul-slot c = search needs
 
 shared-slice-read-slot : tie.Need-shared-slice-read-slot
-shared-slice-read-slot c = omega (arith, place-bounds (c .before .before .before .before .before .before .before .pre .0) _ _ (c .before .before .before .before .before .before .before .pre .1 .0) _ (c .before .before .before .before .before .before .before .pre .1 .1 .0))
+shared-slice-read-slot c =
+    let start = c .before .before .before .before .before .before .before in
+    omega (arith, place-bounds (start .pre .0) _ _ (start .pre .1 .0) _ (start .pre .1 .1 .0))
 
 add-label : tie.Need-add-label
-add-label c = omega (arith, place-bounds (c .before .before .before .before .before .before .before .pre .0) _ _ (c .before .before .before .before .before .before .before .pre .1 .0) _ (c .before .before .before .before .before .before .before .pre .1 .1 .0))
+add-label c =
+    let start = c .before .before .before .before .before .before .before in
+    omega (arith, place-bounds (start .pre .0) _ _ (start .pre .1 .0) _ (start .pre .1 .1 .0))
 
 returns : tie.Need-returns
-returns c = (rw (place-left-out (c .before .before .before .before .before .before .before .before .pre .0) _ _ (c .before .before .before .before .before .before .before .before .pre .1 .0) (c .before .before .wide .result) _ (ap suc (c .before .before .wide .ensures) ∙ c .before .before .before .before .before .before .before .before .pre .1 .1 .0 .here) (c .if1 .taken)) (wrote-none _ _ _), (add-one _, passed-left-out (c .before .before .before .before .before .before .before .before .pre .0) _ _ (c .before .before .before .before .before .before .before .before .pre .1 .0) _ (c .before .before .before .before .before .before .before .before .pre .1 .1 .0) (rw (c .before .before .wide .ensures) at (c .if1 .taken))))
+returns c =
+    let start = c .before .before .before .before .before .before .before .before in
+    let wide = c .before .before .wide in
+    (rw (place-left-out (start .pre .0) _ _ (start .pre .1 .0) (wide .result) _ (ap suc (wide .ensures) ∙ start .pre .1 .1 .0 .here) (c .if1 .taken)) (wrote-none _ _ _),
+    (add-one _, passed-left-out (start .pre .0) _ _ (start .pre .1 .0) _ (start .pre .1 .1 .0) (rw (wide .ensures) at (c .if1 .taken))))
 
 position-requires : tie.Need-position-requires
-position-requires c κs = omega (arith, place-bounds (c .before .before .before .before .before .before .before .before .pre .0) _ _ (c .before .before .before .before .before .before .before .before .pre .1 .0) _ (c .before .before .before .before .before .before .before .before .pre .1 .1 .0))
+position-requires c κs =
+    let start = c .before .before .before .before .before .before .before .before in
+    omega (arith, place-bounds (start .pre .0) _ _ (start .pre .1 .0) _ (start .pre .1 .1 .0))
 
 wide-requires-2 : tie.Need-wide-requires-2
 wide-requires-2 c κs = search needs
@@ -73,12 +83,22 @@ part-write-place-end c = search needs
 
 -- the place is held
 kept : (c : tie.After-position)
-    → placeAt (c .before .before .before .before .before .before .before .before .before .args .n) (now (c .before .before .before .before .before .before .before .before .before .args .plan)) (now (c .before .before .before .before .before .before .before .before .before .args .work)) (c .before .before .before .before .before .before .before .before .before .args .divisor) (c .before .before .before .before .before .before .before .before .before .args .i) (c .before .before .before .before .before .before .before .before .before .args .j)
-    ≡ recordsOf (formulaAt (c .before .before .before .before .before .before .before .before .before .args .n) (now (c .before .before .before .before .before .before .before .before .before .args .work)) (getD (now (c .before .before .before .before .before .before .before .before .before .args .work)) (c .before .before .before .wide .result) 0) (c .position .result) (c .before .before .before .before .before .before .before .before .before .args .divisor) (c .before .before .before .before .before .before .before .before .before .args .i) (c .before .before .before .before .before .before .before .before .before .args .j))
-kept c = place-kept (c .before .before .before .before .before .before .before .before .before .pre .0) _ _ (c .before .before .before .before .before .before .before .before .before .pre .1 .0) (c .before .before .before .wide .result) _ (ap suc (c .before .before .before .wide .ensures) ∙ c .before .before .before .before .before .before .before .before .before .pre .1 .1 .0 .here) (c .position .result) (c .before .if1 .left) (position-found (c .before .before .before .before .before .before .before .before .before .pre .0) _ _ (c .before .before .before .before .before .before .before .before .before .pre .1 .0) _ (c .before .before .before .before .before .before .before .before .before .pre .1 .1 .0) _ (c .position .ensures))
+    → let a = c .before .before .before .before .before .before .before .before .before .args in placeAt (a .n) (now (a .plan)) (now (a .work)) (a .divisor) (a .i) (a .j)
+    ≡ recordsOf (formulaAt (a .n) (now (a .work)) (getD (now (a .work)) (c .before .before .before .wide .result) 0) (c .position .result) (a .divisor) (a .i) (a .j))
+kept c =
+    let start = c .before .before .before .before .before .before .before .before .before in
+    let wide = c .before .before .before .wide in
+    place-kept (start .pre .0) _ _ (start .pre .1 .0) (wide .result) _ (ap suc (wide .ensures) ∙ start .pre .1 .1 .0 .here) (c .position .result) (c .before .if1 .left)
+    (position-found (start .pre .0) _ _ (start .pre .1 .0) _ (start .pre .1 .1 .0) _ (c .position .ensures))
 
 write-place-requires : tie.Need-write-place-requires
-write-place-requires c κs = (c .before .before .before .before .before .before .before .before .before .before .before .before .before .before .before .before .pre .0 .covers, (c .before .before .before .before .before .before .before .before .before .before .before .before .before .before .before .before .pre .1 .0, (inner-none (c .before .before .before .before .before .before .before .before .before .before .before .before .before .before .before .before .pre .0) _ _ _ _ _ (c .before .before .before .before .before .before .before .before .before .before .before .before .before .before .before .before .pre .1 .0) (c .before .before .before .before .before .before .wide2 .ensures) (c .before .before .before .before .wide3 .ensures) (c .before .before .later .ensures), lent-room _ _ _ _ (ap (_*_ 4) (c .before .wide4 .ensures)) (rw (kept (c .before .before .before .before .before .before .before)) at (c .before .before .before .before .before .before .before .before .before .before .before .before .before .before .before .before .pre .1 .1 .1)))))
+write-place-requires c κs =
+    let start = c .before .before .before .before .before .before .before .before .before .before .before .before .before .before .before .before in
+    let wide2 = c .before .before .before .before .before .before .wide2 in
+    let found = c .before .before .before .before .before .before .before in
+    let wide3 = c .before .before .before .before .wide3 in
+    let none = inner-none (start .pre .0) _ _ _ _ _ (start .pre .1 .0) (wide2 .ensures) (wide3 .ensures) (c .before .before .later .ensures) in
+    (start .pre .0 .covers, (start .pre .1 .0, (none, lent-room _ _ _ _ (ap (_*_ 4) (c .before .wide4 .ensures)) (rw (kept found) at (start .pre .1 .1 .1)))))
 
 later-requires-2 : tie.Need-later-requires-2
 later-requires-2 c κs = search needs
@@ -87,7 +107,13 @@ same-length : tie.Need-same-length
 same-length c = search needs
 
 returns-2 : tie.Need-returns-2
-returns-2 c = (rw (kept (c .before .before .before .before .before .before .before .before .before .before .before)) (lent-back _ _ _ _ (ap (_*_ 4) (c .before .before .before .before .before .wide4 .ensures)) _ _ (c .before .before .before .write-place .ensures)), (add-one _, c .later2 .ensures ∙ passed-kept (c .before .before .before .before .before .before .before .before .before .before .before .before .before .before .before .before .before .before .before .before .pre .0) _ _ (c .before .before .before .before .before .before .before .before .before .before .before .before .before .before .before .before .before .before .before .before .pre .1 .0) _ (c .before .before .before .before .before .before .before .before .before .before .before .before .before .before .before .before .before .before .before .before .pre .1 .1 .0) _ (c .before .before .before .before .before .before .before .before .before .before .before .position .ensures)))
+returns-2 c =
+    let start = c .before .before .before .before .before .before .before .before .before .before .before .before .before .before .before .before .before .before .before .before in
+    let position = c .before .before .before .before .before .before .before .before .before .before .before .position in
+    let found = c .before .before .before .before .before .before .before .before .before .before .before in
+    let wide4 = c .before .before .before .before .before .wide4 in
+    (rw (kept found) (lent-back _ _ _ _ (ap (_*_ 4) (wide4 .ensures)) _ _ (c .before .before .before .write-place .ensures)),
+    (add-one _, c .later2 .ensures ∙ passed-kept (start .pre .0) _ _ (start .pre .1 .0) _ (start .pre .1 .1 .0) _ (position .ensures)))
 
 pub write-next-spec : {M : Type 1} → statement M
 write-next-spec =

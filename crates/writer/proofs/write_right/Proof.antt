@@ -1,4 +1,4 @@
--- `write::write_right` writes x(i)'s products. The invariant: those from h down are left to write, and across is the label of (i, h). The measure is h.
+-- `writer::write_right` writes x(i)'s products. The invariant: those from h down are left to write, and across is the label of (i, h). The measure is h.
 use Prim.Native.Nat.{_<_}
 use native.Mathlib.Omega.{arith}
 use mathlib.Core.Path.{_≡_, _∙_}
@@ -24,10 +24,12 @@ wide-requires : tie.Need-wide-requires Inv-loop μ-loop
 wide-requires c κs = search needs
 
 loop-holds : tie.Need-loop-holds Inv-loop μ-loop
-loop-holds c = (falling-starts _ _ _ _ _ _ (omega arith) (c .before .before .before .before .pre .1 .1), λ above. c .wide .ensures ∙ (c .before .label .ensures ∙ label-answered _ _ _ _ (c .before .before .before .before .pre .0) (omega arith)))
+loop-holds c =
+    let start = c .before .before .before .before in
+    (falling-starts _ _ _ _ _ _ (omega arith) (start .pre .1 .1), λ above. c .wide .ensures ∙ (c .before .label .ensures ∙ label-answered _ _ _ _ (start .pre .0) (omega arith)))
 
 here : (c : tie.In-loop Inv-loop μ-loop)
-    → Stands (c .before .before .before .before .before .before .args .n) (now (c .before .before .before .before .before .before .args .work)) (c .before .before .before .before .before .before .args .i) (c .before .loop .h) (c .before .loop .across)
+    → let a = c .before .before .before .before .before .before .args in Stands (a .n) (now (a .work)) (a .i) (c .before .loop .h) (c .before .loop .across)
 here c = stands _ _ _ _ _ (c .before .before .before .before .before .before .pre .0) (omega arith) (c .before .loop .inv .1 (c .loop-test .taken))
 
 sub-subtract : tie.Need-sub-subtract Inv-loop μ-loop
@@ -52,7 +54,12 @@ loop-less : tie.Need-loop-less Inv-loop μ-loop
 loop-less c = omega arith
 
 loop-again : tie.Need-loop-again Inv-loop μ-loop
-loop-again c = (falling-more _ _ _ _ _ _ _ _ _ (c .before .before .before .before .before .before .loop .inv .0) _ _ (c .before .before .before .before .before .loop-test .taken) (rw (← backward-at (here (c .before .before .before .before .before))) at (c .before .before .subtract .ensures)), label-left _ _ _ _ (here (c .before .before .before .before .before) .is))
+loop-again c =
+    let loop = c .before .before .before .before .before .before .loop in
+    let loop-test = c .before .before .before .before .before .loop-test in
+    let turn = c .before .before .before .before .before in
+    (falling-more _ _ _ _ _ _ _ _ _ (loop .inv .0) _ _ (loop-test .taken) (rw (← backward-at (here turn)) at (c .before .before .subtract .ensures)),
+    label-left _ _ _ _ (here turn .is))
 
 returns : tie.Need-returns Inv-loop μ-loop
 returns c = falling-ends _ _ _ _ _ _ _ _ _ (c .before .loop .inv .0) (c .loop-test .left)

@@ -1,4 +1,4 @@
--- `write::write_solution` writes x(n)..x(1). The invariant: those from i down are left to write. The measure is i.
+-- `writer::write_solution` writes x(n)..x(1). The invariant: those from i down are left to write. The measure is i.
 use Prim.Native.Nat.{_*_}
 use native.Mathlib.Omega.{arith}
 use mathlib.Core.Path.{ap}
@@ -38,7 +38,10 @@ part-write-backward-end c = search needs
 
 write-backward-requires : tie.Need-write-backward-requires Inv-loop μ-loop
 unfolding xAt
-write-backward-requires c κs = (c .before .before .before .before .before .before .pre .0, (omega arith, lent-room _ _ _ _ (ap (_*_ 4) (c .before .wide .ensures)) (falling-room _ _ _ _ _ _ _ _ _ (c .before .before .before .loop .inv) (c .before .before .loop-test .taken))))
+write-backward-requires c κs =
+    let start = c .before .before .before .before .before .before in
+    (start .pre .0,
+    (omega arith, lent-room _ _ _ _ (ap (_*_ 4) (c .before .wide .ensures)) (falling-room _ _ _ _ _ _ _ _ _ (c .before .before .before .loop .inv) (c .before .before .loop-test .taken))))
 
 sub-i : tie.Need-sub-i Inv-loop μ-loop
 sub-i c = omega arith
@@ -48,7 +51,11 @@ loop-less c = omega arith
 
 loop-again : tie.Need-loop-again Inv-loop μ-loop
 unfolding xAt
-loop-again c = falling-more _ _ _ _ _ _ _ _ _ (c .before .before .before .before .before .before .loop .inv) _ _ (c .before .before .before .before .before .loop-test .taken) (lent-back _ _ _ _ (ap (_*_ 4) (c .before .before .before .before .wide .ensures)) _ _ (c .before .before .write-backward .ensures))
+loop-again c =
+    let loop = c .before .before .before .before .before .before .loop in
+    let loop-test = c .before .before .before .before .before .loop-test in
+    let wide = c .before .before .before .before .wide in
+    falling-more _ _ _ _ _ _ _ _ _ (loop .inv) _ _ (loop-test .taken) (lent-back _ _ _ _ (ap (_*_ 4) (wide .ensures)) _ _ (c .before .before .write-backward .ensures))
 
 returns : tie.Need-returns Inv-loop μ-loop
 returns c = falling-ends _ _ _ _ _ _ _ _ _ (c .before .loop .inv) (c .loop-test .left)

@@ -1,4 +1,4 @@
--- `lines::first_of` answers the first t of a column or a row.
+-- `slots::lines::first_of` answers the first t of a column or a row.
 use native.Mathlib.Numerals.{add-one}
 use borrow.Author.Needs.{needs}
 use Rattle.slots.proofs.lines.first_of.Statement.{statement}

@@ -1,0 +1,167 @@
+-- A record's judgement by its kind: the tests on numbers that a kind makes are the model's.
+use Prim.Native.Nat.{ℕ, zero, suc, _+_, _-_, _≤_, _<_}
+use native.Mathlib.Omega.{arith}
+use mathlib.Core.Path.{_≡_, refl, sym, subst}
+use mathlib.Core.Bool.{Bool, true, false, cond, not, _&&_, and-comm, and-false}
+use lib.Dec.{leb, ltb, eqb}
+use borrow.Author.Tests.{lt-ltb, le-ltb, ltb-true, ltb-false, leb-true, ne-eqb}
+use Rattle.model.specs.Label.{within}
+use Rattle.model.specs.Formula.{Table, C, Y, X, numberOf}
+use Rattle.model.specs.Check as Check
+use Rattle.model.specs.Check.{Open, idle, busy, Kind, opens, subtracts, divides, closes, closesPivot, none, kindOf, formed, inOrder, inTurn, counted, onward, isIdle}
+use Rattle.progress.specs.declared.Head.{Head}
+use Rattle.progress.specs.declared.Progress.{Progress}
+use Rattle.progress.specs.Steps.{openOf, openNumber, progressOf, total, firstOf, refusalOf}
+
+-- 11, by the number of the open table
+pub idle-number : (o : Open) → eqb (openNumber o) 0 ≡ isIdle o
+idle-number idle = refl
+idle-number (busy C) = refl
+idle-number (busy Y) = refl
+idle-number (busy X) = refl
+
+pub opens-order : (t : Table) (o : Open) → isIdle o ≡ inOrder (opens t) o
+unfolding inOrder
+opens-order t idle = refl
+opens-order t (busy u) = refl
+
+pub divides-order : (o : Open) → not (isIdle o) ≡ inOrder divides o
+unfolding inOrder
+divides-order idle = refl
+divides-order (busy u) = refl
+
+pub closes-order : (o : Open) → not (isIdle o) ≡ inOrder closes o
+unfolding inOrder
+closes-order idle = refl
+closes-order (busy u) = refl
+
+pub subtracts-order : (t : Table) (o : Open) → eqb (openNumber o) (numberOf t) ≡ inOrder (subtracts t) o
+unfolding inOrder
+subtracts-order C idle = refl
+subtracts-order Y idle = refl
+subtracts-order X idle = refl
+subtracts-order C (busy C) = refl
+subtracts-order C (busy Y) = refl
+subtracts-order C (busy X) = refl
+subtracts-order Y (busy C) = refl
+subtracts-order Y (busy Y) = refl
+subtracts-order Y (busy X) = refl
+subtracts-order X (busy C) = refl
+subtracts-order X (busy Y) = refl
+subtracts-order X (busy X) = refl
+
+pub pivot-order : (o : Open) → eqb (openNumber o) 1 ≡ inOrder closesPivot o
+unfolding inOrder
+pivot-order idle = refl
+pivot-order (busy C) = refl
+pivot-order (busy Y) = refl
+pivot-order (busy X) = refl
+
+-- a record counts at most one entry more
+counted-total : (o : Open) (g : Check.Progress) → total (counted o g) ≤ suc (total g)
+counted-total idle g = omega arith
+counted-total (busy C) g = omega arith
+counted-total (busy Y) g = omega arith
+counted-total (busy X) g = omega arith
+
+pub onward-total : (k : Kind) (g : Check.Progress) → total (onward k g) ≤ suc (total g)
+onward-total (opens t) g = omega arith
+onward-total (subtracts t) g = omega arith
+onward-total divides g = omega arith
+onward-total closes g = counted-total (g .target) g
+onward-total closesPivot g = counted-total (g .target) g
+onward-total none g = omega arith
+
+-- kinds 4 to 6 subtract into the table whose number is three less
+pub record Subtracting (kind : ℕ) : Type 0 where
+  pub table : Table
+  pub kind-is : kindOf kind ≡ subtracts table
+  pub number-is : kind - 3 ≡ numberOf table
+
+pub subtracting : (kind : ℕ) → 4 ≤ kind → kind ≤ 6 → Subtracting kind
+unfolding kindOf
+subtracting kind low high = subst Subtracting (omega arith) (step (kind - 4) (omega arith))
+  where
+    step : (d : ℕ) → d < 3 → Subtracting (4 + d)
+    step zero h = record { table = C; kind-is = refl; number-is = refl }
+    step (suc zero) h = record { table = Y; kind-is = refl; number-is = refl }
+    step (suc (suc zero)) h = record { table = X; kind-is = refl; number-is = refl }
+    step (suc (suc (suc d))) h = absurd (omega arith)
+
+-- a number that is at least j, and not j, is above it
+pub above : (k j : ℕ) → j ≤ k → (k ≡ j → ⊥) → suc j ≤ k
+above k j low other = omega arith
+
+-- 10 of a number that is no kind
+pub no-kind : (kind : ℕ) → 10 ≤ kind → kindOf kind ≡ none
+unfolding kindOf
+no-kind kind high =
+    let other : (k : ℕ) → k < 10 → eqb kind k ≡ false = λ k low. ne-eqb kind k (λ e. omega arith) in
+    rw (other 1 (omega arith), other 2 (omega arith), other 3 (omega arith), other 4 (omega arith), other 5 (omega arith), other 6 (omega arith), other 7 (omega arith), other 8 (omega arith), other 9 (omega arith))
+
+-- one kind's tests give the refusal of a record of that kind
+module _ (h : Head) (g : Progress) (kind p q : ℕ) (k : Kind) (is : kindOf kind ≡ k) where
+  pub arm : {f o t : Bool} → f ≡ formed k p q → o ≡ inOrder k (openOf (g .target)) → t ≡ inTurn (h .order) (h .coefficients) (h .slots) k p q (progressOf g)
+      → firstOf f o t ≡ refusalOf h g kind p q
+  arm ef eo et = cc
+
+-- kinds 8 and 9 close what is open
+pub onward-closes : (kind : ℕ) (g : Check.Progress) → 8 ≤ kind → kind < 10 → counted (g .target) g ≡ onward (kindOf kind) g
+unfolding kindOf
+onward-closes kind g low high =
+    let is : 8 + (kind - 8) ≡ kind = omega arith in
+    subst (λ k. counted (g .target) g ≡ onward (kindOf k) g) is (step (kind - 8) (omega arith))
+  where
+    step : (d : ℕ) → d < 2 → counted (g .target) g ≡ onward (kindOf (8 + d)) g
+    step zero h = refl
+    step (suc zero) h = refl
+    step (suc (suc d)) h = absurd (omega arith)
+
+-- kinds that neither open nor close change nothing
+pub onward-same : (kind : ℕ) (g : Check.Progress) → (kind ≡ 1 → ⊥) → (kind ≡ 2 → ⊥) → (kind ≡ 3 → ⊥) → (kind ≡ 8 → ⊥) → (kind ≡ 9 → ⊥) → g ≡ onward (kindOf kind) g
+unfolding kindOf
+onward-same kind g n1 n2 n3 n8 n9 =
+    rw (ne-eqb kind 1 n1, ne-eqb kind 2 n2, ne-eqb kind 3 n3, ne-eqb kind 8 n8, ne-eqb kind 9 n9) (step (eqb kind 4) (eqb kind 5) (eqb kind 6) (eqb kind 7))
+  where
+    step : (four five six seven : Bool)
+        → g ≡ onward (cond four (subtracts C) (cond five (subtracts Y) (cond six (subtracts X) (cond seven divides none)))) g
+    step true five six seven = refl
+    step false true six seven = refl
+    step false false true seven = refl
+    step false false false true = refl
+    step false false false false = refl
+
+-- 12 of kind 3, whose tests stand in another order
+pub opens-x-turn : (h : Head) (g : Progress) (p : ℕ) → within p (g .y) && eqb (p + g .x) (h .order) ≡ inTurn (h .order) (h .coefficients) (h .slots) (opens X) p 0 (progressOf g)
+unfolding inTurn
+opens-x-turn h g p = between (ltb 0 p) (eqb (p + g .x) (h .order)) (leb p (g .y))
+  where
+    between : (a b c : Bool) → (a && c) && b ≡ a && b && c
+    between false b c = refl
+    between true b c = and-comm c b
+
+-- 12 of kinds 4 to 6: C(p) is closed, and so is the second factor
+abbrev pub readableFactor : ℕ → Table → ℕ → Check.Progress → Bool
+readableFactor N C q g = within q (g .c)
+readableFactor N Y q g = within q (g .y)
+readableFactor N X q g = ltb (N - g .x) q && leb q N
+
+subtracts-turn : (N n s : ℕ) (t : Table) (p q : ℕ) (g : Check.Progress) → within p (g .c) && readableFactor N t q g ≡ inTurn N n s (subtracts t) p q g
+unfolding inTurn
+subtracts-turn N n s C p q g = refl
+subtracts-turn N n s Y p q g = refl
+subtracts-turn N n s X p q g = refl
+
+pub readable-is : (h : Head) (g : Progress) (kind p q : ℕ) (t : Table) → kindOf kind ≡ subtracts t → {a b : Bool} → a ≡ within p (g .c)
+    → b ≡ readableFactor (h .order) t q (progressOf g) → a && b ≡ inTurn (h .order) (h .coefficients) (h .slots) (kindOf kind) p q (progressOf g)
+readable-is h g kind p q t is ea eb = cc (subtracts-turn (h .order) (h .coefficients) (h .slots) t p q (progressOf g))
+
+-- X(q) is closed: q is in range, and fewer entries lie above it than are closed
+pub closed-x : (N x q : ℕ) → within q N && ltb (N - q) x ≡ ltb (N - x) q && leb q N
+closed-x N x q = step (ltb 0 q) (leb q N) (ltb (N - q) x) refl refl refl
+  where
+    step : (low high up : Bool) → ltb 0 q ≡ low → leb q N ≡ high → ltb (N - q) x ≡ up → low && high && up ≡ ltb (N - x) q && high
+    step false high up el eh eu = rw (le-ltb (N - x) q (omega (arith, ltb-false 0 q el)))
+    step true false up el eh eu = sym (and-false (ltb (N - x) q))
+    step true true true el eh eu = rw (lt-ltb (N - x) q (omega (arith, ltb-true 0 q el, leb-true q N eh, ltb-true (N - q) x eu)))
+    step true true false el eh eu = rw (le-ltb (N - x) q (omega (arith, leb-true q N eh, ltb-false (N - q) x eu)))

@@ -1,0 +1,3 @@
+-- The laws that the proofs of `progress` share.
+pub mod Judging
+pub mod Right

@@ -1,0 +1,2 @@
+-- What the contracts of `progress` cite.
+pub mod Steps
