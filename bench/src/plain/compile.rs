@@ -74,6 +74,14 @@ impl Walk {
     }
 }
 
+/// How many of the next places, of which the first has this index, are not in the plan and can have no pair in batch m: they take 0.
+fn empties(first: &[usize], m: usize, from: usize, next: Option<&u32>, work: &mut [u32]) -> usize {
+    let planned = next.map_or(usize::MAX, |&label| label as usize - 1);
+    let empty = first.iter().take(planned - from).take_while(|&&h| h >= m).count();
+    work[from..from + empty].fill(0);
+    empty
+}
+
 impl Table {
     /// The slots of all places by rising label, or the first missing pivot.
     fn fill(n: usize, plan: &[u32], work: &mut [u32]) -> Result<Self, usize> {
@@ -88,20 +96,26 @@ impl Table {
         let (mut position, mut label) = (0, 0);
         for m in 1..=n {
             let pivot = label;
-            for i in m..=n {
+            let mut i = m;
+            while i <= n {
                 let planned = plan.get(position) == Some(&(label as u32 + 1));
                 position += usize::from(planned);
                 work[label] = table.slot(i, m, planned, work);
-                label += 1;
+                let empty = empties(&table.first_column[i + 1..], m, label + 1, plan.get(position), work);
+                label += empty + 1;
+                i += empty + 1;
             }
             if work[pivot] == 0 {
                 return Err(m);
             }
-            for j in m + 1..=n {
+            let mut j = m + 1;
+            while j <= n {
                 let planned = plan.get(position) == Some(&(label as u32 + 1));
                 position += usize::from(planned);
                 work[label] = table.slot(m, j, planned, work);
-                label += 1;
+                let empty = empties(&table.first_row[j + 1..], m, label + 1, plan.get(position), work);
+                label += empty + 1;
+                j += empty + 1;
             }
         }
         Ok(table)

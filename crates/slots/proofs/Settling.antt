@@ -64,7 +64,16 @@ module _ {N : ℕ} {L : Plan} {m i j : ℕ} {walk after : Walk} {work inRows inC
       record {
         passed = s .passed ∙ rw (s .done, p, w .passed) (sym (passed-next N L (at .checked .rises) (walk .done)));
         used = s .used ∙ rw (s .done, t, w .used) (sym (closed-next N L (walk .done) i j inside (at .next)));
-        written = rw (s .done, s .written, take-suc-set work (walk .done) _ (b .1), take-suc (slotNumbers N L) (walk .done) 0 (omega (arith, slot-numbers-length N L, label-range N i j inside, at .next)), w .written, slot-next N L i j (walk .done) inside (at .next), t, w .used);
+        written = rw (
+          s .done,
+          s .written,
+          take-suc-set work (walk .done) _ (b .1),
+          take-suc (slotNumbers N L) (walk .done) 0 (omega (arith, slot-numbers-length N L, label-range N i j inside, at .next)),
+          w .written,
+          slot-next N L i j (walk .done) inside (at .next),
+          t,
+          w .used,
+        );
         row-count = noted-length (s .noted-row) ∙ w .row-count;
         column-count = noted-length (s .noted-column) ∙ w .column-count;
         row-low = λ a h. noted-low (s .noted-row) (b .4) (inside .column-low) a (w .row-low a h);

@@ -1,6 +1,8 @@
 -- Batch m's column from the diagonal down or, across, its row right of the diagonal. Definitions only.
 use Prim.Native.Nat.{ℕ, suc}
 use mathlib.Core.Bool.{Bool, cond}
+use mathlib.Core.List.{List}
+use lib.ListN.{getD}
 
 -- the row and the column of a line's t-th place, and the first t
 abbrev pub rowOf : Bool → ℕ → ℕ → ℕ
@@ -11,3 +13,7 @@ columnOf across m t = cond across t m
 
 abbrev pub firstOf : Bool → ℕ → ℕ
 firstOf across m = cond across (suc m) m
+
+-- what is noted of the t-th place's other line: of its row on a column, of its column on a row
+abbrev pub notedOf : Bool → List ℕ → List ℕ → ℕ → ℕ
+notedOf across inRows inColumns t = cond across (getD inColumns t 0) (getD inRows t 0)

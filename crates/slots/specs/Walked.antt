@@ -1,5 +1,5 @@
 -- What holds while the places are walked in dense order, and what the slot pass answers. Definitions only.
-use Prim.Native.Nat.{ℕ, suc, _*_, _≤_, _<_, min}
+use Prim.Native.Nat.{ℕ, suc, _+_, _-_, _*_, _≤_, _<_, min}
 use mathlib.Core.Path.{_≡_}
 use mathlib.Core.Bool.{Bool, cond}
 use mathlib.Core.List.{List, _++_}
@@ -37,6 +37,14 @@ pub record Walked (N : ℕ) (L : Plan) (walk : Walk) (work inRows inColumns : Li
 pub record Reached (N : ℕ) (L : Plan) (across : Bool) (m t : ℕ) (walk : Walk) (work inRows inColumns : List ℕ) : Type 0 where
   pub next : suc (walk .done) ≡ label N (rowOf across m t) (columnOf across m t)
   pub walked : Walked N L walk work inRows inColumns
+
+-- the places from the t-th on up to the one that `after` stands before have taken 0
+pub record Passed (N : ℕ) (L : Plan) (across : Bool) (m t : ℕ) (walk after : Walk) (work work′ inRows inColumns : List ℕ) : Type 0 where
+  pub onward : walk .done ≤ after .done
+  pub inside : t + (after .done - walk .done) ≤ suc N
+  pub size : length work′ ≡ length work
+  pub reached : Reached N L across m (t + (after .done - walk .done)) after work′ inRows inColumns
+  pub rest : drop (after .done) work′ ≡ drop (after .done) work
 
 -- line k's note after a place at h of it, if it is taken: the smaller of h and what was noted
 pub record Noted (k h : ℕ) (taken : Bool) (notes notes′ : List ℕ) : Type 0 where

@@ -6,17 +6,17 @@ use lines::first_of;
 use lines::row_of;
 use lines::wide;
 ghost use mathlib.Core.Path.{_≡_};
-ghost use mathlib.Core.Bool.{true, cond, _&&_};
+ghost use mathlib.Core.Bool.{true, cond, not, _&&_};
 ghost use Prim.Native.Nat.{suc, _+_, _*_, _≤_, _<_, min, max};
-ghost use lib.Dec.{ltb};
+ghost use lib.Dec.{leb, ltb};
 ghost use lib.ListN.{length, getD, set, drop, replicate};
 ghost use Rattle.model.specs.Label.{isOrder};
 ghost use Rattle.model.specs.Label.{label as Label·label};
 ghost use Rattle.model.specs.Compile.{judged, good};
 ghost use Rattle.model.proofs.Labels.{Inside};
 ghost use Rattle.model.proofs.Pointer.{isNext};
-ghost use Rattle.slots.specs.Walked.{Checked, Reached, Settled, Fills};
-ghost use Rattle.slots.specs.Batch.{firstOf};
+ghost use Rattle.slots.specs.Walked.{Checked, Reached, Passed, Settled, Fills};
+ghost use Rattle.slots.specs.Batch.{firstOf, notedOf};
 
 // How far the places are walked: those done, the plan's labels among them, and the slots given.
 pub struct Walk {
@@ -120,10 +120,74 @@ fn fill_line(
             high += left + left - 1;
             h += 1;
         };
-        walk = settle(work, rows, columns, i, j, planned, held, walk);
-        t += 1;
+        let settled = settle(work, rows, columns, i, j, planned, held, walk);
+        walk = pass_empty(n, plan, work, rows, columns, m, across, t + 1, settled);
+        t += walk.done - settled.done + 1;
     }
     walk
+}
+
+// The places from the t-th on that are not in the plan, and can have no pair, take 0, up to the first that may be held.
+fn pass_empty(
+    n: u32,
+    plan: &[u32],
+    work: &mut [u32],
+    rows: &[u32],
+    columns: &[u32],
+    m: u32,
+    across: bool,
+    t: u32,
+    walk: Walk,
+) -> Walk
+    requires { ⌜ Checked n (now plan) (now work) ⌝ }
+    requires { ⌜ (1 ≤ m) × (m ≤ n) × (firstOf across m ≤ t) × (t ≤ suc n) × (walk .done ≤ 360000) ⌝ }
+    requires { ⌜ Reached n (now plan) across m t walk (now work) (now rows) (now columns) ⌝ }
+    ensures { λ r. ⌜ Passed n (now (plan .entry)) across m t walk r (now (work .entry)) (now (work .exit)) (now (rows .entry)) (now (columns .entry)) ⌝ }
+{
+    let next = label_at(plan, walk.passed);
+    let mut done = walk.done;
+    let mut k = t;
+    while is_empty(rows, columns, across, n, m, k, done + 1 == next) {
+        work[done as usize] = 0;
+        done += 1;
+        k += 1;
+    }
+    Walk {
+        done,
+        passed: walk.passed,
+        used: walk.used,
+    }
+}
+
+// The plan's label at an index, 0 past its end.
+fn label_at(plan: &[u32], k: usize) -> u32
+    ensures { λ r. ⌜ r ≡ cond (ltb k (length (now (plan .entry)))) (getD (now (plan .entry)) k 0) 0 ⌝ }
+{
+    if k < plan.len() { plan[k] } else { 0 }
+}
+
+// Whether a line has a k-th place that isn't in the plan and can have no pair: its row, on a column, or its column notes nothing before batch m.
+fn is_empty(
+    rows: &[u32],
+    columns: &[u32],
+    across: bool,
+    n: u32,
+    m: u32,
+    k: u32,
+    planned: bool,
+) -> bool
+    requires { ⌜ (n < length (now rows)) × (n < length (now columns)) ⌝ }
+    ensures { λ r. ⌜ r ≡ (leb k n && (not planned && leb m (notedOf across (now (rows .entry)) (now (columns .entry)) k))) ⌝ }
+{
+    k <= n && (!planned && m <= noted(rows, columns, across, k))
+}
+
+fn noted(rows: &[u32], columns: &[u32], across: bool, k: u32) -> u32
+    requires { ⌜ (k < length (now rows)) × (k < length (now columns)) ⌝ }
+    ensures { λ r. ⌜ r ≡ notedOf across (now (rows .entry)) (now (columns .entry)) k ⌝ }
+{
+    let at = wide(k);
+    if across { columns[at] } else { rows[at] }
 }
 
 // Whether the next place is in the plan.

@@ -43,7 +43,8 @@ module _ (A B c y x : List Float) (z : State) (sound : Sound (length c) (length 
 
   module _ (k : Kind) (p q : ℕ) where
     -- the steps of kinds 1 to 3, 4 to 6, and 7
-    pub gives-open : (t : Table) (n : ℕ) (v : Float) (r : State) → Run.step A B (stateOf z c y x) (opens t) p q ≡ Run.going (Run.opened (stateOf z c y x) t n (starting A B (stateOf z c y x .tables) t p))
+    pub gives-open : (t : Table) (n : ℕ) (v : Float) (r : State)
+        → Run.step A B (stateOf z c y x) (opens t) p q ≡ Run.going (Run.opened (stateOf z c y x) t n (starting A B (stateOf z c y x .tables) t p))
         → k ≡ opens t → r ≡ opened z (numberOf t) n v → v ≡ starting A B (stateOf z c y x .tables) t p → Gives k p q (On r) c y x
     gives-open t n v r clause e is from =
         rw (e, is) (

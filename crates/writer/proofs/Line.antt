@@ -1,6 +1,6 @@
 -- One place after another: what the writer knows at a place, and what it leaves.
-use Prim.Native.Nat.{ℕ, suc, _+_, _≤_, _<_, min, max}
-use native.Mathlib.Nat.{mul-le-mul}
+use Prim.Native.Nat.{ℕ, zero, suc, _+_, _-_, _≤_, _<_, min, max}
+use native.Mathlib.Nat.{add-zero, add-suc, mul-le-mul}
 use native.Mathlib.Numerals.{add-one}
 use native.Mathlib.Decide.{decLe}
 use native.Mathlib.Omega.{arith}
@@ -14,15 +14,16 @@ use lib.ListN.{length, getD}
 use Rattle.model.specs.Label.{label}
 use Rattle.model.specs.Fill.{Plan, position}
 use Rattle.model.specs.Program.{recordsOf}
-use Rattle.model.proofs.Labels.{Inside, label-range, label-down, label-turn, label-right, label-next}
+use Rattle.model.proofs.Labels.{Inside, label-range, label-turn, label-next}
 use Rattle.model.proofs.Plans.{plan-length}
 use Rattle.model.proofs.Pointer.{isNext, passedBy, position-next, planned-next, passed-next, passed-at-most}
-use Rattle.writer.specs.Worked.{numberAt, keptAt, innerAt, forwardAt, NoneBelow, formulaAt}
+use Rattle.writer.specs.Worked.{Zeros, numberAt, keptAt, innerAt, forwardAt, NoneBelow, formulaAt}
 use Rattle.writer.specs.Written.{Room, Wrote}
 use Rattle.writer.specs.Line.{Ready, Before, divisorOf, placeAt, lineAt, lineRecords, yAt, batchAt}
 use Rattle.slots.specs.Batch.{rowOf, columnOf, firstOf}
+use Rattle.slots.proofs.Here.{line-inside, line-next}
 use Rattle.writer.specs.declared.Cursor.{Cursor}
-use Rattle.writer.proofs.Written.{Parts, product-left-out}
+use Rattle.writer.proofs.Written.{Parts, wrote-none, product-left-out}
 use Rattle.writer.proofs.Products.{Rising, rising-starts, rising-room, rising-more, rising-ends}
 
 -- ---- the plan's next label
@@ -78,10 +79,26 @@ module _ {n : ℕ} {L : Plan} {work inRows inColumns : List ℕ} (ready : Ready 
       pub place-bounds : (at .done < length work) × (at .done < 360000) × (at .passed ≤ 360000) × (i < length inRows) × (j < length inColumns)
       place-bounds =
           let covers = ready .covers in
-          omega (arith, label-range n i j inside, mul-le-mul {n₂ = 600} {m₂ = 600} (covers .high) (covers .high), passed-at-most L (at .done), plan-length n L (ready .rises), before, covers, ready .row-count, ready .column-count)
+          omega (
+            arith,
+            label-range n i j inside,
+            mul-le-mul {n₂ = 600} {m₂ = 600} (covers .high) (covers .high),
+            passed-at-most L (at .done),
+            plan-length n L (ready .rises),
+            before,
+            covers,
+            ready .row-count,
+            ready .column-count,
+          )
 
       pub passed-left-out : getD work (at .done) 0 ≡ 0 → at .passed ≡ passedBy L (at .done + 1)
-      passed-left-out none = rw (add-one, passed-next n L (ready .rises) (at .done), planned-next n L (ready .rises) (at .done), before .here, ready .planned i j inside (number-here n work i j (at .done) (before .here) ∙ none)) (before .passed)
+      passed-left-out none = rw (
+        add-one,
+        passed-next n L (ready .rises) (at .done),
+        planned-next n L (ready .rises) (at .done),
+        before .here,
+        ready .planned i j inside (number-here n work i j (at .done) (before .here) ∙ none),
+      ) (before .passed)
 
       -- p is what the search for its position answers
       module _ (p : ℕ) (found : p ≡ cond (isNext L (at .passed) (at .done + 1)) (suc (at .passed)) 0) where
@@ -120,19 +137,11 @@ module _ {n : ℕ} {L : Plan} {work : List ℕ} {across : Bool} {m : ℕ} where
       unfolding lineAt
       place-of-line = rw (row, column, e)
 
-      inside-line : (b : Bool) → firstOf b m ≤ t → Inside n (rowOf b m t) (columnOf b m t)
-      inside-line true from = omega arith
-      inside-line false from = omega arith
-
       pub along-place : Inside n i j × (Before n L i j at × Room 0 (at .next) (placeAt n L work divisor i j) words)
       along-place = (
-        rw (row, column) (inside-line across (along .rising .low)),
+        rw (row, column) (line-inside n m t across (inside .row-low) (inside .row-high) (along .rising .low) below .0),
         (rw (row, column) (along .before), rw place-of-line at (rising-room _ _ _ _ _ _ _ _ _ (along .rising) (omega arith))),
       )
-
-      label-on : (b : Bool) → firstOf b m ≤ t → label n (rowOf b m (suc t)) (columnOf b m (suc t)) ≡ suc (label n (rowOf b m t) (columnOf b m t))
-      label-on true from = label-right n m t from
-      label-on false from = label-down n t m from
 
       pub along-more : (after : Cursor) (words′ : List ℕ) → Wrote 0 (at .next) (placeAt n L work divisor i j) words words′ (after .next)
           → (after .done ≡ suc (at .done)) × (after .passed ≡ passedBy L (after .done)) → Along n L work across m k₀ words₀ after (t + 1) words′
@@ -140,13 +149,55 @@ module _ {n : ℕ} {L : Plan} {work : List ℕ} {across : Bool} {m : ℕ} where
           record {
             rising = rising-more _ _ _ _ _ _ _ _ _ (along .rising) words′ (after .next) (omega arith) (rw place-of-line wrote);
             high = omega arith;
-            before = record { here = rw (moved .0, add-one) (ap suc (along .before .here) ∙ sym (label-on across (along .rising .low))); passed = moved .1 };
+            before = record { here = rw (moved .0, add-one) (ap suc (along .before .here) ∙ sym (line-next n m t across (along .rising .low))); passed = moved .1 };
           }
 
     pub along-ends : n < t → Wrote 0 k₀ (lineRecords n L work across m) words₀ words (at .next) × Before n L (rowOf across m (suc n)) (columnOf across m (suc n)) at
     along-ends past =
         let end : suc n ≡ t = omega (arith, along .high) in
         (rising-ends _ _ _ _ _ _ _ _ _ (along .rising) (omega arith), rw end (along .before))
+
+-- ---- places that aren't kept may be passed over
+
+-- one more is 0
+pub zeros-more : (work : List ℕ) (from most k at : ℕ) → Zeros work from most k → k < most → at ≡ k → getD work (from + at) 0 ≡ 0 → Zeros work from most (k + 1)
+zeros-more work from most k at zeros below e none =
+    (omega arith, λ j before. elim (decLe k j) [ yes n ↦ (let same : from + j ≡ from + at = omega arith in rw same none) | no n ↦ zeros .1 j (omega arith) ])
+
+-- labels grow by one along a line, so that its last place has a work number
+line-label : (n m t : ℕ) (across : Bool) (d : ℕ) → firstOf across m ≤ t → label n (rowOf across m (t + d)) (columnOf across m (t + d)) ≡ label n (rowOf across m t) (columnOf across m t) + d
+line-label n m t across zero from = rw (add-zero t) (sym (add-zero _))
+line-label n m t across (suc d) from =
+    let on : t + suc d ≡ suc (t + d) = omega arith in
+    rw on (line-next n m (t + d) across (omega arith) ∙ ap suc (line-label n m t across d from) ∙ sym (add-suc _ d))
+
+pub line-long : {n : ℕ} {L : Plan} {work inRows inColumns : List ℕ} {m t : ℕ} {at : Cursor} (across : Bool) → Ready n L work inRows inColumns → Inside n m m
+    → firstOf across m ≤ t → t ≤ n → Before n L (rowOf across m t) (columnOf across m t) at → (at .done + (n - t) < length work) × (at .done < 360000)
+line-long {n} {m = m} {t} across ready inside from below before =
+    let end : t + (n - t) ≡ n = omega arith in
+    let last = rw end at (line-label n m t across (n - t) from) in
+    let range = label-range n _ _ (line-inside n m n across (inside .row-low) (inside .row-high) (omega arith) (omega arith) .0) in
+    let covers = ready .covers in
+    (omega (arith, last, range, before .here, covers .long), omega (arith, last, range, before .here, mul-le-mul {n₂ = 600} {m₂ = 600} (covers .high) (covers .high)))
+
+module _ {n : ℕ} {L : Plan} {work inRows inColumns : List ℕ} {across : Bool} {m : ℕ} (ready : Ready n L work inRows inColumns) (inside : Inside n m m) where
+  pub along-skips : {k₀ : ℕ} {words₀ words : List ℕ} {at : Cursor} {t : ℕ} → Along n L work across m k₀ words₀ at t words
+      → (d : ℕ) → t + d ≤ suc n → ((k : ℕ) → k < d → getD work (at .done + k) 0 ≡ 0)
+      → Along n L work across m k₀ words₀ (record { next = at .next; done = at .done + d; passed = at .passed }) (t + d) words
+  along-skips {at = at} {t} along zero far none = rw (add-zero t, add-zero (at .done)) along
+  along-skips {at = at} {t} along (suc d) far none =
+      let rest = along-skips along d (omega arith) (λ k below. none k (omega arith)) in
+      let divisor = divisorOf n work across m in
+      let i = rowOf across m (t + d) in
+      let j = columnOf across m (t + d) in
+      let here = along-place rest inside (omega arith) i j divisor refl refl refl in
+      let empty = none d (omega arith) in
+      let nothing = place-left-out ready i j (here .0) (at .done + d) divisor (here .1 .0 .here) empty in
+      let on : t + suc d ≡ t + d + 1 = omega arith in
+      let after : Cursor = record { next = at .next; done = at .done + suc d; passed = at .passed } in
+      let more : at .done + suc d ≡ at .done + d + 1 = omega arith in
+      rw on (along-more rest inside (omega arith) i j divisor refl refl refl after _ (rw nothing (wrote-none _ _ _))
+      (omega arith, rw more (passed-left-out ready i j (here .0) _ (here .1 .0) empty)))
 
 -- ---- batch m: its column, y(m) and its row
 

@@ -7,15 +7,15 @@ ghost use mathlib.Core.Path.{_≡_};
 ghost use mathlib.Core.Bool.{cond};
 ghost use mathlib.Core.List.{_∷_, [], _++_};
 ghost use lib.Dec.{eqb};
-ghost use Prim.Native.Nat.{suc, _*_, _≤_, min, max};
-ghost use lib.ListN.{drop};
+ghost use Prim.Native.Nat.{suc, _+_, _*_, _≤_, min, max};
+ghost use lib.ListN.{length, drop};
 ghost use Rattle.model.specs.Fill.{recordCount};
 ghost use Rattle.model.specs.Crout.{forward, backward};
 ghost use Rattle.model.specs.Program.{rec, recordsOf, compiled};
 ghost use Rattle.model.proofs.Labels.{Inside};
 ghost use Rattle.model.proofs.Pointer.{isNext, passedBy};
 ghost use Rattle.writer.specs.Written.{Room, Wrote, productOf, quotientOf};
-ghost use Rattle.writer.specs.Worked.{numberAt, keptAt, Covers, innerAt, forwardAt, backwardAt, upTo, downTo, NoneBelow, formulaAt};
+ghost use Rattle.writer.specs.Worked.{Zeros, numberAt, keptAt, Covers, innerAt, forwardAt, backwardAt, upTo, downTo, NoneBelow, formulaAt};
 ghost use Rattle.writer.specs.Prepared.{Prepared};
 ghost use Rattle.writer.specs.Line.{Ready, Before, divisorOf, placeAt, lineRecords, batchAt, batchRecords, solutionRecords};
 ghost use Rattle.slots.specs.Batch.{rowOf, columnOf, firstOf};
@@ -154,9 +154,26 @@ fn write_line(
             divisor,
             at,
         );
-        t += 1;
+        let empty = zeros(work, wide(at.done), n - t);
+        at.done += empty;
+        t += empty + 1;
     }
     at
+}
+
+// How many work numbers from an index on are 0, before one that isn't, of so many at the most.
+fn zeros(work: &[u32], from: usize, most: u32) -> u32
+    requires { ⌜ (from + most ≤ length (now work)) × (from ≤ 360000) ⌝ }
+    ensures { λ r. ⌜ Zeros (now (work .entry)) from most r ⌝ }
+{
+    let mut k = 0;
+    while k < most {
+        if work[from + wide(k)] != 0 {
+            return k;
+        }
+        k += 1;
+    }
+    k
 }
 
 // The next place, (i, j): its formula, if it is held, goes into the rest of the words, lent from the next free record on.

@@ -12,7 +12,8 @@ solve-requires c κs = search needs
 
 run-answer-requires : tie.Need-run-answer-requires
 run-answer-requires c κs =
-    reply-fits (c .before .before .before .before .before .before .before .before .before .before .before .solve .ensures .1 .0) (replied-small _ _ _ _ _ _ _ _ _) (let start = c .before .before .before .before .before .before .before .before .before .before .before .before .before .before .before .before .before .before .before .before .before .before .before .before .before in omega (arith, start .good))
+    reply-fits (c .before .before .before .before .before .before .before .before .before .before .before .solve .ensures .1 .0) (replied-small _ _ _ _ _ _ _ _ _)
+    (let start = c .before .before .before .before .before .before .before .before .before .before .before .before .before .before .before .before .before .before .before .before .before .before .before .before .before in omega (arith, start .good))
 
 same-length : tie.Need-same-length
 same-length c = search needs

@@ -45,7 +45,9 @@ follow-requires : tie.Need-follow-requires
 follow-requires c κs = omega (arith, count-true (length (program (c .before .before .before .before .before .before .before .before))) (fits (c .before .before .before .before)))
 
 returns-3 : tie.Need-returns-3
-returns-3 c = c .follow .ensures ∙ chain-checked _ _ (head (c .before .before .before)) (fits (c .before .before .before .before .before)) (sym (c .before .before .head-fits .ensures) ∙ not-false _ (c .before .if2 .left))
+returns-3 c =
+    c .follow .ensures ∙ chain-checked _ _ (head (c .before .before .before)) (fits (c .before .before .before .before .before))
+    (sym (c .before .before .head-fits .ensures) ∙ not-false _ (c .before .if2 .left))
 
 pub check-either-spec : {M : Type 1} → statement M
 check-either-spec =

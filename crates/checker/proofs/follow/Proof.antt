@@ -78,10 +78,14 @@ judge-requires c κs = omega arith
 
 -- the refusal of the next record, or 0
 abbrev refusal-now : (c : tie.After-record-at2 Inv-loop2 μ-loop2 Inv-loop μ-loop) → ℕ
-refusal-now c = let r = c .record-at2 .result in refusalOf (c .before .before .before .before .before .before .before .before .before .before .before .args .h) (c .before .loop2 .g) (r .kind) (r .p) (r .q)
+refusal-now c =
+    let a = c .before .before .before .before .before .before .before .before .before .before .before .args in
+    let r = c .record-at2 .result in
+    refusalOf (a .h) (c .before .loop2 .g) (r .kind) (r .p) (r .q)
 
 -- the next record and its refusal
-turn : (c : tie.After-record-at2 Inv-loop2 μ-loop2 Inv-loop μ-loop) → let a = c .before .before .before .before .before .before .before .before .before .before .before .args in let l = c .before .loop2 in
+turn : (c : tie.After-record-at2 Inv-loop2 μ-loop2 Inv-loop μ-loop)
+    → let a = c .before .before .before .before .before .before .before .before .before .before .before .args in let l = c .before .loop2 in
     Turn (a .h) (content (a .filed) (a .words .now) (a .bytes .now)) (l .g) (l .k) (l .next) (refusal-now c)
 turn c =
     let l = c .before .loop2 in
@@ -138,8 +142,11 @@ loop2-again : tie.Need-loop2-again Inv-loop2 μ-loop2 Inv-loop μ-loop
 loop2-again c =
     let read = c .before .wide2 .ensures ∙ ap (λ r. r .next) (c .before .before .before .before .before .before .record-at2 .ensures) in
     let l = c .before .before .before .before .before .before .before .loop2 in
-    let start = c .before .before .before .before .before .before .before .before .before .before .before .before .before .before .before .before .before in
-    (omega (arith, l .inv .0, l .inv .2 .up), omega arith, record { here = arrived (c .before .before .before); is = sym (c .if5 .left) ∙ read; up = one-more _; low = inside _ _ _ (start .pre .1 .1) (omega arith) })
+    let start = c .before .before .before .before .before .before .before .before .before .before .before .before .before .before .before .before .before in (
+      omega (arith, l .inv .0, l .inv .2 .up),
+      omega arith,
+      record { here = arrived (c .before .before .before); is = sym (c .if5 .left) ∙ read; up = one-more _; low = inside _ _ _ (start .pre .1 .1) (omega arith) },
+    )
 
 pub follow-spec : {M : Type 1} → statement M
 follow-spec =

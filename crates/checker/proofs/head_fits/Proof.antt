@@ -25,10 +25,20 @@ mul-result : tie.Need-mul-result
 mul-result c = omega (arith, square-small (c .before .before .before .before))
 
 returns : tie.Need-returns
-returns c = rw (sym (c .before .before .before .before .before .before .within .ensures) ∙ c .before .before .before .before .before .if1 .taken, le-leb _ _ (c .before .before .before .if2 .taken), le-leb _ _ (c .before .if3 .taken))
+returns c =
+    rw (
+      sym (c .before .before .before .before .before .before .within .ensures) ∙ c .before .before .before .before .before .if1 .taken,
+      le-leb _ _ (c .before .before .before .if2 .taken),
+      le-leb _ _ (c .before .if3 .taken),
+    )
 
 returns-2 : tie.Need-returns-2
-returns-2 c = rw (sym (c .before .before .before .before .before .within .ensures) ∙ c .before .before .before .before .if1 .taken, le-leb _ _ (c .before .before .if2 .taken), lt-leb _ _ (c .if3 .left))
+returns-2 c =
+    rw (
+      sym (c .before .before .before .before .before .within .ensures) ∙ c .before .before .before .before .if1 .taken,
+      le-leb _ _ (c .before .before .if2 .taken),
+      lt-leb _ _ (c .if3 .left),
+    )
 
 returns-3 : tie.Need-returns-3
 returns-3 c = rw (sym (c .before .before .before .within .ensures) ∙ c .before .before .if1 .taken, lt-leb _ _ (c .if2 .left))

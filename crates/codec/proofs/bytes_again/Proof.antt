@@ -34,7 +34,8 @@ module _ (c : tie.After-read) where
   done : let a = c .before .before .before .before .before .before .before .before .before .args in filed (c .read .given .0 .0) ≡ reads (length (a .bytes .now)) (length (a .words .now))
   done = sym (ap filedOf (c .read .given .1)) ∙ c .before .before .before .before .read-file .ensures .0
 
-  front : Front (c .read .given .0 .0) (wordsOf (c .before .before .before .before .before .before .before .before .before .args .bytes .now)) (c .before .before .before .before .read-file .last .1 .0)
+  front : Front (c .read .given .0 .0) (wordsOf (c .before .before .before .before .before .before .before .before .before .args .bytes .now))
+      (c .before .before .before .before .read-file .last .1 .0)
   front = made-front _ _ _ done (c .before .before .before .before .read-file .ensures .1)
 
 slice-reshare-prefix-write-file : tie.Need-slice-reshare-prefix-write-file

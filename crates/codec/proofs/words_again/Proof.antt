@@ -33,7 +33,8 @@ module _ (c : tie.After-written) where
   done : let a = c .before .before .before .before .before .before .before .before .before .args in filed (c .written .given .0 .0) ≡ writes (length (a .words .now)) (length (a .bytes .now))
   done = sym (ap filedOf (c .written .given .1)) ∙ c .before .before .before .before .write-file .ensures .0
 
-  front : Front (c .written .given .0 .0) (bytesOf (c .before .before .before .before .before .before .before .before .before .args .words .now)) (c .before .before .before .before .write-file .last .1 .0)
+  front : Front (c .written .given .0 .0) (bytesOf (c .before .before .before .before .before .before .before .before .before .args .words .now))
+      (c .before .before .before .before .write-file .last .1 .0)
   front = written-front _ _ _ done (c .before .before .before .before .write-file .ensures .1)
 
 slice-reshare-prefix-read-file : tie.Need-slice-reshare-prefix-read-file

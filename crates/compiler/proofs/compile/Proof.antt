@@ -55,8 +55,10 @@ enum-told : tie.Need-enum-told
 enum-told c = search needs
 
 compile-good-requires : tie.Need-compile-good-requires
-compile-good-requires c κs =
-    (ordered (c .before .before .before .before .before .before .before), (sym (c .before .before .before .before .judge .ensures) ∙ ap labelsOf (c .before .before .enum-told .given .1), roomy (c .before .before .before .before .before)))
+compile-good-requires c κs = (
+  ordered (c .before .before .before .before .before .before .before),
+  (sym (c .before .before .before .before .judge .ensures) ∙ ap labelsOf (c .before .before .enum-told .given .1), roomy (c .before .before .before .before .before)),
+)
 
 returns-3 : tie.Need-returns-3
 returns-3 c =

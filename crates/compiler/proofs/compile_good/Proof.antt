@@ -53,7 +53,9 @@ enum-known-slots : tie.Need-enum-known-slots
 enum-known-slots c = search needs
 
 record-count-requires : tie.Need-record-count-requires
-record-count-requires c κs = let start = c .before .before .before .before .before .before .before .before .before .before .before .before .before .before in records-fit (start .pre .0) (start .pre .1 .0) (start .pre .1 .1) (held c)
+record-count-requires c κs =
+    let start = c .before .before .before .before .before .before .before .before .before .before .before .before .before .before in
+    records-fit (start .pre .0) (start .pre .1 .0) (start .pre .1 .1) (held c)
 
 wide-requires-2 : tie.Need-wide-requires-2
 wide-requires-2 c κs = search needs
@@ -80,7 +82,8 @@ slice-aggregate-write-2 c = search needs
 write-requires : tie.Need-write-requires
 write-requires c κs =
     let start = c .before .before .before .before .before .before .before .before .before .before .before .before .before .before .before .before .before .before .before .before .before in
-    prepared (start .pre .0) (start .pre .1 .0) (start .pre .1 .1) (held (c .before .before .before .before .before .before .before)) _ _ (c .before .before .before .before .before .before .record-count .ensures) (search needs)
+    prepared (start .pre .0) (start .pre .1 .0) (start .pre .1 .1) (held (c .before .before .before .before .before .before .before)) _ _
+    (c .before .before .before .before .before .before .record-count .ensures) (search needs)
 
 same-length-2 : tie.Need-same-length-2
 same-length-2 c = search needs
@@ -88,7 +91,8 @@ same-length-2 c = search needs
 returns-2 : tie.Need-returns-2
 returns-2 c =
     let start = c .before .before .before .before .before .before .before .before .before .before .before .before .before .before .before .before .before .before .before in
-    missing-ends (start .pre .0) (start .pre .1 .0) (start .pre .1 .1) _ (gone (c .before .before .before .before .before)) (rw (c .before .before .before .wide .ensures) at (c .before .before .clear .ensures))
+    missing-ends (start .pre .0) (start .pre .1 .0) (start .pre .1 .1) _ (gone (c .before .before .before .before .before))
+    (rw (c .before .before .before .wide .ensures) at (c .before .before .clear .ensures))
 
 same-length-3 : tie.Need-same-length-3
 same-length-3 c = search needs
@@ -99,7 +103,8 @@ same-length-4 c = search needs
 returns-3 : tie.Need-returns-3
 returns-3 c =
     let start = c .before .before .before .before .before .before .before .before .before .before .before .before .before .before .before .before .before .before .before .before .before .before .before .before in
-    done-ends (start .pre .0) (start .pre .1 .0) (start .pre .1 .1) (held (c .before .before .before .before .before .before .before .before .before .before)) _ _ _ (c .before .before .before .before .before .before .before .before .before .record-count .ensures) (search needs) (c .before .before .write .ensures)
+    done-ends (start .pre .0) (start .pre .1 .0) (start .pre .1 .1) (held (c .before .before .before .before .before .before .before .before .before .before)) _ _ _
+    (c .before .before .before .before .before .before .before .before .before .record-count .ensures) (search needs) (c .before .before .write .ensures)
 
 pub compile-good-spec : {M : Type 1} → statement M
 compile-good-spec =

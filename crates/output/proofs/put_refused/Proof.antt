@@ -42,7 +42,8 @@ returns c =
     (put-byte 117
     (put-byte 102
     (put-byte 101
-    (put-byte 114 (put-none 0 (c .args .out .now)) (omega arith)) (simp length-set (omega arith))) (simp length-set (omega arith))) (simp length-set (omega arith))) (simp length-set (omega arith))) (simp length-set (omega arith))) (simp length-set (omega arith))) (simp length-set (omega arith))
+    (put-byte 114 (put-none 0 (c .args .out .now)) (omega arith)) (simp length-set (omega arith))) (simp length-set (omega arith))) (simp length-set (omega arith)))
+    (simp length-set (omega arith))) (simp length-set (omega arith))) (simp length-set (omega arith))) (simp length-set (omega arith))
 
 pub put-refused-spec : {M : Type 1} → statement M
 put-refused-spec =

@@ -64,7 +64,8 @@ returns c =
     let first = second .before .before .before .before in
     let s = first .before .before .before in
     let end = room-after (after-4 fourth) (s .args .d) (decimal-short _ (s .fits .d .fits)) 10 (c .put-entry5 .ensures) (c .put-entry5 .kept .1 .1 .1 .0) in
-    put-line (put-more (first .put-entry .ensures) (put-more (second .put-entry2 .ensures) (put-more (third .put-entry3 .ensures) (put-more (fourth .put-entry4 .ensures) (c .put-entry5 .ensures))))) end (omega arith)
+    put-line (put-more (first .put-entry .ensures) (put-more (second .put-entry2 .ensures)
+    (put-more (third .put-entry3 .ensures) (put-more (fourth .put-entry4 .ensures) (c .put-entry5 .ensures))))) end (omega arith)
 
 pub record-line-spec : {M : Type 1} → statement M
 record-line-spec =

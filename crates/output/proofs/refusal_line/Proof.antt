@@ -20,10 +20,14 @@ after-number c =
     room-after (after-word (c .before .before .before .before)) (s .args .number) (decimal-short _ (s .fits .number .fits)) 32 (c .put-entry .ensures) (c .put-entry .kept .1 .1 .1 .0)
 
 put-entry-requires : tie.Need-put-entry-requires
-put-entry-requires c κs = let s = c .before .before .before .before .before .before in room-for (after-word (c .before .before .before)) (s .args .number) (decimal-short _ (s .fits .number .fits)) (omega arith)
+put-entry-requires c κs =
+    let s = c .before .before .before .before .before .before in
+    room-for (after-word (c .before .before .before)) (s .args .number) (decimal-short _ (s .fits .number .fits)) (omega arith)
 
 put-entry-requires-2 : tie.Need-put-entry-requires-2
-put-entry-requires-2 c κs = let s = c .before .before .before .before .before .before .before .before .before in room-for (after-number (c .before .before)) (s .args .detail) (decimal-long _ (s .fits .detail .fits)) (omega arith)
+put-entry-requires-2 c κs =
+    let s = c .before .before .before .before .before .before .before .before .before in
+    room-for (after-number (c .before .before)) (s .args .detail) (decimal-long _ (s .fits .detail .fits)) (omega arith)
 
 returns : tie.Need-returns
 unfolding refusalLine

@@ -37,7 +37,8 @@ returns-2 c =
     let is = c .before .if2 .taken in
     let some = c .before .before .if1 .left in
     let sub = subtracting (a .kind) (omega (arith, now, few, is, some)) (omega (arith, now, few, is, some)) in
-    right-arm (a .h) (a .g) (a .kind) (a .p) (a .q) (subtracts (sub .table)) (sub .kind-is) refl (sym (eq-eqb (openNumber (openOf (a .g .target))) _ (omega (arith, now, is, sub .number-is))) ∙ subtracts-order (sub .table) _)
+    right-arm (a .h) (a .g) (a .kind) (a .p) (a .q) (subtracts (sub .table)) (sub .kind-is) refl
+    (sym (eq-eqb (openNumber (openOf (a .g .target))) _ (omega (arith, now, is, sub .number-is))) ∙ subtracts-order (sub .table) _)
     (c .readable .ensures ∙ ap (λ k. inTurn (a .h .order) (a .h .coefficients) (a .h .slots) k (a .p) (a .q) (progressOf (a .g))) (sub .kind-is))
 
 -- something is open
@@ -84,7 +85,8 @@ unfolding kindOf formed inTurn
 returns-6 c =
     let n = c .before .before .before .before .before .before .before in
     let a = n .before .args in
-    and-comm true _ ∙ right-arm (a .h) (a .g) (a .kind) (a .p) (a .q) closesPivot (ap kindOf (c .before .before .if6 .taken)) (c .unused2 .ensures) (sym (eq-eqb _ 1 (c .before .if7 .taken)) ∙ pivot-now n) refl
+    and-comm true _ ∙ right-arm (a .h) (a .g) (a .kind) (a .p) (a .q) closesPivot (ap kindOf (c .before .before .if6 .taken)) (c .unused2 .ensures)
+    (sym (eq-eqb _ 1 (c .before .if7 .taken)) ∙ pivot-now n) refl
 
 returns-7 : tie.Need-returns-7
 unfolding kindOf formed inTurn

@@ -81,37 +81,43 @@ returns : tie.Need-returns
 unfolding kindOf formed inTurn
 returns c =
     let a = c .before .before .before .before .args in
-    c .first-of .ensures ∙ arm (a .h) (a .g) (a .kind) (a .p) (a .q) (opens C) (ap kindOf (c .before .before .match .keys1)) refl (idle-now (c .before .before .before) ∙ opens-order C _) (c .before .turn-of-c .ensures)
+    c .first-of .ensures ∙ arm (a .h) (a .g) (a .kind) (a .p) (a .q) (opens C) (ap kindOf (c .before .before .match .keys1)) refl
+    (idle-now (c .before .before .before) ∙ opens-order C _) (c .before .turn-of-c .ensures)
 
 returns-2 : tie.Need-returns-2
 unfolding kindOf formed inTurn
 returns-2 c =
     let a = c .before .before .before .before .args in
-    c .first-of2 .ensures ∙ arm (a .h) (a .g) (a .kind) (a .p) (a .q) (opens Y) (ap kindOf (c .before .before .match .keys2)) refl (idle-now (c .before .before .before) ∙ opens-order Y _) (c .before .turn-of-y .ensures)
+    c .first-of2 .ensures ∙ arm (a .h) (a .g) (a .kind) (a .p) (a .q) (opens Y) (ap kindOf (c .before .before .match .keys2)) refl
+    (idle-now (c .before .before .before) ∙ opens-order Y _) (c .before .turn-of-y .ensures)
 
 returns-3 : tie.Need-returns-3
 unfolding kindOf formed inTurn
 returns-3 c =
     let a = c .before .before .before .before .args in
-    c .first-of3 .ensures ∙ arm (a .h) (a .g) (a .kind) (a .p) (a .q) (opens X) (ap kindOf (c .before .before .match .keys3)) refl (idle-now (c .before .before .before) ∙ opens-order X _) (c .before .turn-of-x .ensures)
+    c .first-of3 .ensures ∙ arm (a .h) (a .g) (a .kind) (a .p) (a .q) (opens X) (ap kindOf (c .before .before .match .keys3)) refl
+    (idle-now (c .before .before .before) ∙ opens-order X _) (c .before .turn-of-x .ensures)
 
 returns-4 : tie.Need-returns-4
 unfolding kindOf formed inTurn
 returns-4 c =
     let a = c .before .before .before .before .args in
-    c .first-of4 .ensures ∙ arm (a .h) (a .g) (a .kind) (a .p) (a .q) divides (ap kindOf (c .before .before .match .keys4)) refl (ap not (idle-now (c .before .before .before)) ∙ divides-order _) (c .before .within .ensures)
+    c .first-of4 .ensures ∙ arm (a .h) (a .g) (a .kind) (a .p) (a .q) divides (ap kindOf (c .before .before .match .keys4)) refl
+    (ap not (idle-now (c .before .before .before)) ∙ divides-order _) (c .before .within .ensures)
 
 returns-5 : tie.Need-returns-5
 unfolding kindOf formed inTurn
 returns-5 c =
     let a = c .before .before .before .before .args in
-    c .first-of5 .ensures ∙ arm (a .h) (a .g) (a .kind) (a .p) (a .q) closes (ap kindOf (c .before .before .match .keys5)) (c .before .unused .ensures) (ap not (idle-now (c .before .before .before)) ∙ closes-order _) refl
+    c .first-of5 .ensures ∙ arm (a .h) (a .g) (a .kind) (a .p) (a .q) closes (ap kindOf (c .before .before .match .keys5)) (c .before .unused .ensures)
+    (ap not (idle-now (c .before .before .before)) ∙ closes-order _) refl
 
 returns-6 : tie.Need-returns-6
 unfolding kindOf formed inTurn
 returns-6 c =
     let a = c .before .before .before .before .args in
-    c .first-of6 .ensures ∙ arm (a .h) (a .g) (a .kind) (a .p) (a .q) closesPivot (ap kindOf (c .before .before .match .keys6)) (c .before .unused2 .ensures) (ap (λ m. eqb m 1) (c .before .before .before .open-number .ensures) ∙ pivot-order _) refl
+    c .first-of6 .ensures ∙ arm (a .h) (a .g) (a .kind) (a .p) (a .q) closesPivot (ap kindOf (c .before .before .match .keys6)) (c .before .unused2 .ensures)
+    (ap (λ m. eqb m 1) (c .before .before .before .open-number .ensures) ∙ pivot-order _) refl
 
 returns-7 : tie.Need-returns-7
 unfolding formed
@@ -132,7 +138,8 @@ returns-9 : tie.Need-returns-9
 unfolding formed firstOf
 returns-9 c =
     let a = c .before .before .before .args in
-    sym (ap (λ k. firstOf (formed k (a .p) (a .q)) (inOrder k (openOf (a .g .target))) (inTurn (a .h .order) (a .h .coefficients) (a .h .slots) k (a .p) (a .q) (progressOf (a .g)))) (no-kind (a .kind) (high c)))
+    sym (ap (λ k. firstOf (formed k (a .p) (a .q)) (inOrder k (openOf (a .g .target)))
+    (inTurn (a .h .order) (a .h .coefficients) (a .h .slots) k (a .p) (a .q) (progressOf (a .g)))) (no-kind (a .kind) (high c)))
 
 pub judge-spec : {M : Type 1} → statement M
 judge-spec =

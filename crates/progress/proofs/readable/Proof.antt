@@ -40,13 +40,15 @@ returns-2 : tie.Need-returns-2
 unfolding kindOf
 returns-2 c =
     let a = c .before .before .before .before .args in
-    readable-is (a .h) (a .g) (a .kind) (a .p) (a .q) C (ap kindOf (c .before .match .keys1)) (sym (not-false _ (c .before .before .if1 .left)) ∙ c .before .before .before .within .ensures) (c .within2 .ensures)
+    readable-is (a .h) (a .g) (a .kind) (a .p) (a .q) C (ap kindOf (c .before .match .keys1))
+    (sym (not-false _ (c .before .before .if1 .left)) ∙ c .before .before .before .within .ensures) (c .within2 .ensures)
 
 returns-3 : tie.Need-returns-3
 unfolding kindOf
 returns-3 c =
     let a = c .before .before .before .before .args in
-    readable-is (a .h) (a .g) (a .kind) (a .p) (a .q) Y (ap kindOf (c .before .match .keys2)) (sym (not-false _ (c .before .before .if1 .left)) ∙ c .before .before .before .within .ensures) (c .within3 .ensures)
+    readable-is (a .h) (a .g) (a .kind) (a .p) (a .q) Y (ap kindOf (c .before .match .keys2))
+    (sym (not-false _ (c .before .before .if1 .left)) ∙ c .before .before .before .within .ensures) (c .within3 .ensures)
 
 returns-4 : tie.Need-returns-4
 unfolding kindOf

@@ -42,7 +42,8 @@ few c = c .loop2 .inv .1 .0 .ran .whole .few
 
 ran-on : (c : tie.After-known-told Inv-loop2 μ-loop2 Inv-loop μ-loop)
     → Ran (start (turn (stepped c)) .args .words .now) (start (turn (stepped c)) .args .a .now) (start (turn (stepped c)) .args .b .now)
-    (stepped c .step .last .1 .1 .1 .1 .1 .1 .0) (stepped c .step .last .1 .1 .1 .1 .1 .1 .1 .0) (stepped c .step .last .1 .1 .1 .1 .1 .1 .1 .1 .0) (c .before .after .given .0 .0) (turn (stepped c) .loop2 .k)
+    (stepped c .step .last .1 .1 .1 .1 .1 .1 .0) (stepped c .step .last .1 .1 .1 .1 .1 .1 .1 .0) (stepped c .step .last .1 .1 .1 .1 .1 .1 .1 .1 .0)
+    (c .before .after .given .0 .0) (turn (stepped c) .loop2 .k)
 ran-on c =
     let s = stepped c .step in
     let a = start (turn (stepped c)) .args in
@@ -51,17 +52,24 @@ ran-on c =
     (s .kept .1 .1 .1 .1 .1 .1 .0) (s .kept .1 .1 .1 .1 .1 .1 .1 .0) (s .kept .1 .1 .1 .1 .1 .1 .1 .1 .0) (s .ensures .0) (s .ensures .1) _ (c .before .after .given .1)
 
 -- the lengths after a step are those at the inner loop's start, and those at the function's entry
-same-turn : (c : tie.After-step Inv-loop2 μ-loop2 Inv-loop μ-loop) → let l = turn c .before .before .loop in Same (l .c) (l .y) (l .x) (c .step .last .1 .1 .1 .1 .1 .1 .0) (c .step .last .1 .1 .1 .1 .1 .1 .1 .0) (c .step .last .1 .1 .1 .1 .1 .1 .1 .1 .0)
+same-turn : (c : tie.After-step Inv-loop2 μ-loop2 Inv-loop μ-loop) → let l = turn c .before .before .loop in
+    Same (l .c) (l .y) (l .x) (c .step .last .1 .1 .1 .1 .1 .1 .0) (c .step .last .1 .1 .1 .1 .1 .1 .1 .0) (c .step .last .1 .1 .1 .1 .1 .1 .1 .1 .0)
 same-turn c = same-trans (turn c .loop2 .inv .0) (record { of-c = c .step .kept .1 .1 .1 .1 .1 .1 .0; of-y = c .step .kept .1 .1 .1 .1 .1 .1 .1 .0; of-x = c .step .kept .1 .1 .1 .1 .1 .1 .1 .1 .0 })
 
-same-entry : (c : tie.After-step Inv-loop2 μ-loop2 Inv-loop μ-loop) → let a = start (turn c) .args in Same (a .c .now) (a .y .now) (a .x .now) (c .step .last .1 .1 .1 .1 .1 .1 .0) (c .step .last .1 .1 .1 .1 .1 .1 .1 .0) (c .step .last .1 .1 .1 .1 .1 .1 .1 .1 .0)
+same-entry : (c : tie.After-step Inv-loop2 μ-loop2 Inv-loop μ-loop) → let a = start (turn c) .args in
+    Same (a .c .now) (a .y .now) (a .x .now) (c .step .last .1 .1 .1 .1 .1 .1 .0) (c .step .last .1 .1 .1 .1 .1 .1 .1 .0) (c .step .last .1 .1 .1 .1 .1 .1 .1 .1 .0)
 same-entry c = same-trans (turn c .before .before .loop .inv .0) (same-turn c)
 
 fresh-requires : tie.Need-fresh-requires Inv-loop2 μ-loop2 Inv-loop μ-loop
 fresh-requires c κs = search needs
 
 shared-slice-read-wide : tie.Need-shared-slice-read-wide Inv-loop2 μ-loop2 Inv-loop μ-loop
-shared-slice-read-wide c = omega (arith, fine-whole (c .before .before .before .before .before .before .before .before .args .words .now) (c .before .before .before .before .before .before .before .before .pre .checked))
+shared-slice-read-wide c =
+    omega (
+      arith,
+      fine-whole (c .before .before .before .before .before .before .before .before .args .words .now)
+          (c .before .before .before .before .before .before .before .before .pre .checked),
+    )
 
 wide-requires : tie.Need-wide-requires Inv-loop2 μ-loop2 Inv-loop μ-loop
 wide-requires c κs = search needs
@@ -73,7 +81,8 @@ loop-holds c =
       record {
         last = 0;
         is = sym (c .wide .ensures);
-        ran = subst (λ z. Ran (a .words .now) (a .a .now) (a .b .now) (a .c .now) (a .y .now) (a .x .now) z 0) (sym (c .before .before .fresh .ensures)) (starts (a .words .now) (a .a .now) (a .b .now) (a .c .now) (a .y .now) (a .x .now) (c .before .before .before .before .before .before .before .before .before .pre));
+        ran = subst (λ z. Ran (a .words .now) (a .a .now) (a .b .now) (a .c .now) (a .y .now) (a .x .now) z 0) (sym (c .before .before .fresh .ensures))
+            (starts (a .words .now) (a .a .now) (a .b .now) (a .c .now) (a .y .now) (a .x .now) (c .before .before .before .before .before .before .before .before .before .pre));
       },
     )
 
@@ -123,7 +132,7 @@ enum-known-number : tie.Need-enum-known-number Inv-loop2 μ-loop2 Inv-loop μ-lo
 enum-known-number c = search needs
 
 cast-t35 : tie.Need-cast-t35 Inv-loop2 μ-loop2 Inv-loop μ-loop
-cast-t35 c = omega (arith, low (c .before .before .before .before .before .before .before .before .before .before .before .before .before .before .before .before), few (c .before .before .before .before .before .before .before .before .before .before .before .before .before .before .before .before))
+cast-t35 c = let t = c .before .before .before .before .before .before .before .before .before .before .before .before .before .before .before .before in omega (arith, low t, few t)
 
 same-length : tie.Need-same-length Inv-loop2 μ-loop2 Inv-loop μ-loop
 same-length c = same-entry (c .before .before .before .before .before .before .before .before .before) .of-c
@@ -143,13 +152,14 @@ returns c =
     (s .step .kept .1 .1 .1 .1 .1 .1 .0) (s .step .kept .1 .1 .1 .1 .1 .1 .1 .0) (s .step .kept .1 .1 .1 .1 .1 .1 .1 .1 .0) (s .step .ensures .0) (s .step .ensures .1) _ (c .before .number .given .1)
 
 add-wide : tie.Need-add-wide Inv-loop2 μ-loop2 Inv-loop μ-loop
-add-wide c = omega (arith, low (c .before .before .before .before .before .before .before .before .before .before .before .before .before .before .before .before), few (c .before .before .before .before .before .before .before .before .before .before .before .before .before .before .before .before))
+add-wide c = let t = c .before .before .before .before .before .before .before .before .before .before .before .before .before .before .before .before in omega (arith, low t, few t)
 
 mul-wide : tie.Need-mul-wide Inv-loop2 μ-loop2 Inv-loop μ-loop
-mul-wide c = omega (arith, low (c .before .before .before .before .before .before .before .before .before .before .before .before .before .before .before .before), few (c .before .before .before .before .before .before .before .before .before .before .before .before .before .before .before .before))
+mul-wide c = let t = c .before .before .before .before .before .before .before .before .before .before .before .before .before .before .before .before in omega (arith, low t, few t)
 
 shared-slice-read-wide-2 : tie.Need-shared-slice-read-wide-2 Inv-loop2 μ-loop2 Inv-loop μ-loop
-shared-slice-read-wide-2 c = omega (arith, low (c .before .before .before .before .before .before .before .before .before .before .before .before .before .before .before .before .before), few (c .before .before .before .before .before .before .before .before .before .before .before .before .before .before .before .before .before))
+shared-slice-read-wide-2 c =
+    let t = c .before .before .before .before .before .before .before .before .before .before .before .before .before .before .before .before .before in omega (arith, low t, few t)
 
 wide-requires-2 : tie.Need-wide-requires-2 Inv-loop2 μ-loop2 Inv-loop μ-loop
 wide-requires-2 c κs = search needs
@@ -159,7 +169,8 @@ loop-less c =
     let s = stepped (c .before .before .before) in
     let a = start (turn s) .args in
     let l = turn s .loop2 in
-    gets-on (a .words .now) (a .a .now) (a .b .now) _ _ _ _ _ (l .k) (c .before .wide2 .result) (turn s .before .loop-test .taken) (l .inv .1 .1 .1) (low (turn s)) (ran-on (c .before .before .before)) (sym (c .before .wide2 .ensures))
+    gets-on (a .words .now) (a .a .now) (a .b .now) _ _ _ _ _ (l .k) (c .before .wide2 .result) (turn s .before .loop-test .taken) (l .inv .1 .1 .1) (low (turn s))
+    (ran-on (c .before .before .before)) (sym (c .before .wide2 .ensures))
 
 loop-again : tie.Need-loop-again Inv-loop2 μ-loop2 Inv-loop μ-loop
 loop-again c =
@@ -173,7 +184,10 @@ loop2-again : tie.Need-loop2-again Inv-loop2 μ-loop2 Inv-loop μ-loop
 loop2-again c =
     let s = stepped (c .before .before .before) in (
       same-turn s,
-      (record { last = turn s .loop2 .k; is = sym (c .before .wide2 .ensures) ∙ c .if1 .left; ran = ran-on (c .before .before .before) }, (λ e. omega arith, omega (arith, turn s .loop2 .inv .1 .1 .1))),
+      (
+        record { last = turn s .loop2 .k; is = sym (c .before .wide2 .ensures) ∙ c .if1 .left; ran = ran-on (c .before .before .before) },
+        (λ e. omega arith, omega (arith, turn s .loop2 .inv .1 .1 .1)),
+      ),
     )
 
 same-length-4 : tie.Need-same-length-4 Inv-loop2 μ-loop2 Inv-loop μ-loop

@@ -23,13 +23,45 @@ wide-requires-3 : tie.Need-wide-requires-3
 wide-requires-3 c κs = search needs
 
 returns : tie.Need-returns
-returns c = rw (← c .before .before .before .before .before .before .before .before .wide .ensures, ← c .before .before .before .before .before .before .wide2 .ensures, ← c .before .before .wide3 .ensures, eq-eqb _ _ (c .before .before .before .before .before .if1 .taken), eq-eqb _ _ (c .before .before .before .before .if2 .taken), eq-eqb _ _ (c .before .if3 .taken), eq-eqb _ _ (c .if4 .taken))
+returns c =
+    let order = c .before .before .before .before .before .before .before .before .wide in
+    let coefficients = c .before .before .before .before .before .before .wide2 in
+    rw (
+      ← order .ensures,
+      ← coefficients .ensures,
+      ← c .before .before .wide3 .ensures,
+      eq-eqb _ _ (c .before .before .before .before .before .if1 .taken),
+      eq-eqb _ _ (c .before .before .before .before .if2 .taken),
+      eq-eqb _ _ (c .before .if3 .taken),
+      eq-eqb _ _ (c .if4 .taken),
+    )
 
 returns-2 : tie.Need-returns-2
-returns-2 c = rw (← c .before .before .before .before .before .before .before .before .wide .ensures, ← c .before .before .before .before .before .before .wide2 .ensures, ← c .before .before .wide3 .ensures, eq-eqb _ _ (c .before .before .before .before .before .if1 .taken), eq-eqb _ _ (c .before .before .before .before .if2 .taken), eq-eqb _ _ (c .before .if3 .taken), ne-eqb _ _ (c .if4 .left))
+returns-2 c =
+    let order = c .before .before .before .before .before .before .before .before .wide in
+    let coefficients = c .before .before .before .before .before .before .wide2 in
+    rw (
+      ← order .ensures,
+      ← coefficients .ensures,
+      ← c .before .before .wide3 .ensures,
+      eq-eqb _ _ (c .before .before .before .before .before .if1 .taken),
+      eq-eqb _ _ (c .before .before .before .before .if2 .taken),
+      eq-eqb _ _ (c .before .if3 .taken),
+      ne-eqb _ _ (c .if4 .left),
+    )
 
 returns-3 : tie.Need-returns-3
-returns-3 c = rw (← c .before .before .before .before .before .before .before .wide .ensures, ← c .before .before .before .before .before .wide2 .ensures, ← c .before .wide3 .ensures, eq-eqb _ _ (c .before .before .before .before .if1 .taken), eq-eqb _ _ (c .before .before .before .if2 .taken), ne-eqb _ _ (c .if3 .left))
+returns-3 c =
+    let order = c .before .before .before .before .before .before .before .wide in
+    let coefficients = c .before .before .before .before .before .wide2 in
+    rw (
+      ← order .ensures,
+      ← coefficients .ensures,
+      ← c .before .wide3 .ensures,
+      eq-eqb _ _ (c .before .before .before .before .if1 .taken),
+      eq-eqb _ _ (c .before .before .before .if2 .taken),
+      ne-eqb _ _ (c .if3 .left),
+    )
 
 returns-4 : tie.Need-returns-4
 returns-4 c = rw (← c .before .before .before .before .wide .ensures, ← c .before .before .wide2 .ensures, eq-eqb _ _ (c .before .if1 .taken), ne-eqb _ _ (c .if2 .left))

@@ -17,7 +17,8 @@ use Rattle.runner.proofs.run.Tie as tie
 fine-now : (c : tie.After-enum-told) → check (c .before .before .before .before .before .before .before .before .before .args .words .now) ≡ fine
 fine-now c = sym (c .before .before .check .ensures) ∙ ap verdictOf (c .enum-told .given .1)
 
-fits-now : (c : tie.Else1) → let a = c .before .before .before .before .before .before .before .before .before .before .before .args in lengthsFit (a .words .now) (length (a .a .now)) (length (a .b .now)) (length (a .c .now)) (length (a .y .now)) (length (a .x .now)) ≡ true
+fits-now : (c : tie.Else1) → let a = c .before .before .before .before .before .before .before .before .before .before .before .args in
+    lengthsFit (a .words .now) (length (a .a .now)) (length (a .b .now)) (length (a .c .now)) (length (a .y .now)) (length (a .x .now)) ≡ true
 fits-now c = sym (c .before .lengths-fit .ensures) ∙ not-false _ (c .if1 .left)
 
 check-requires : tie.Need-check-requires
@@ -48,12 +49,14 @@ not-finite-requires c κs = search needs
 returns-3 : tie.Need-returns-3
 returns-3 c =
     let a = c .before .before .before .before .before .before .before .before .before .before .before .before .before .args in
-    leaves-15 (a .words .now) (a .a .now) (a .b .now) (a .c .now) (a .y .now) (a .x .now) (fine-now (c .before .before .before .before)) (fits-now (c .before .before)) _ (c .before .not-finite .ensures) (c .if2 .taken)
+    leaves-15 (a .words .now) (a .a .now) (a .b .now) (a .c .now) (a .y .now) (a .x .now) (fine-now (c .before .before .before .before))
+    (fits-now (c .before .before)) _ (c .before .not-finite .ensures) (c .if2 .taken)
 
 run-records-requires : tie.Need-run-records-requires
 run-records-requires c κs =
     let a = c .before .before .before .before .before .before .before .before .before .before .before .before .before .before .before .before .args in
-    fit-true (a .words .now) (a .a .now) (a .b .now) (a .c .now) (a .y .now) (a .x .now) (fine-now (c .before .before .before .before .before .before .before)) (fits-now (c .before .before .before .before .before))
+    fit-true (a .words .now) (a .a .now) (a .b .now) (a .c .now) (a .y .now) (a .x .now) (fine-now (c .before .before .before .before .before .before .before))
+    (fits-now (c .before .before .before .before .before))
 
 same-length : tie.Need-same-length
 same-length c = c .before .before .before .before .before .before .run-records .kept .1 .1 .1 .0
@@ -67,7 +70,10 @@ same-length-3 c = c .before .before .before .before .before .before .run-records
 returns-4 : tie.Need-returns-4
 returns-4 c =
     let a = c .before .before .before .before .before .before .before .before .before .before .before .before .before .before .before .before .before .before .before .before .before .before .before .args in
-    leaves-records (a .words .now) (a .a .now) (a .b .now) (a .c .now) (a .y .now) (a .x .now) (fine-now (c .before .before .before .before .before .before .before .before .before .before .before .before .before .before)) (fits-now (c .before .before .before .before .before .before .before .before .before .before .before .before)) (sym (c .before .before .before .before .before .before .before .before .before .before .before .not-finite .ensures) ∙ c .before .before .before .before .before .before .before .before .before .before .if2 .left) _ _ _ _ (c .before .before .before .before .before .before .run-records .ensures)
+    let finite = c .before .before .before .before .before .before .before .before .before .before in
+    let all-finite = sym (finite .before .not-finite .ensures) ∙ finite .if2 .left in
+    leaves-records (a .words .now) (a .a .now) (a .b .now) (a .c .now) (a .y .now) (a .x .now) (fine-now (finite .before .before .before .before))
+    (fits-now (finite .before .before)) all-finite _ _ _ _ (c .before .before .before .before .before .before .run-records .ensures)
 
 pub run-spec : {M : Type 1} → statement M
 run-spec =

@@ -46,7 +46,8 @@ returns c =
     let f = c .before .before .before .before .before .before .before .before .follow in
     let a = c .before .before .before .before .before .before .before .before .before .before .before .before .before .before .before .before .before .before .args in
     let o = done (a .words .now) (a .a .now) (a .b .now) in
-    leaves-solved (a .c .now) (a .y .now) (a .x .now) (f .last .1 .1 .1 .0) (f .last .1 .1 .1 .1 .0) (f .last .1 .1 .1 .1 .1 .0) o (replyOf (f .result)) (solves-told (f .result) (c .before .match .keys1)) (f .ensures .0) (f .ensures .1 .0) (f .ensures .1 .1 .0) (f .ensures .1 .1 .1)
+    leaves-solved (a .c .now) (a .y .now) (a .x .now) (f .last .1 .1 .1 .0) (f .last .1 .1 .1 .1 .0) (f .last .1 .1 .1 .1 .1 .0) o (replyOf (f .result))
+    (solves-told (f .result) (c .before .match .keys1)) (f .ensures .0) (f .ensures .1 .0) (f .ensures .1 .1 .0) (f .ensures .1 .1 .1)
 
 clear-requires : tie.Need-clear-requires
 clear-requires c κs = search needs
@@ -58,21 +59,31 @@ clear-requires-3 : tie.Need-clear-requires-3
 clear-requires-3 c κs = search needs
 
 same-length-4 : tie.Need-same-length-4
-same-length-4 c = c .before .before .before .before .before .before .before .before .before .before .clear .kept .0 ∙ c .before .before .before .before .before .before .before .before .before .before .before .before .before .before .before .before .before .before .before .follow .kept .1 .1 .1 .0
+same-length-4 c =
+    let follow = c .before .before .before .before .before .before .before .before .before .before .before .before .before .before .before .before .before .before .before .follow in
+    c .before .before .before .before .before .before .before .before .before .before .clear .kept .0 ∙ follow .kept .1 .1 .1 .0
 
 same-length-5 : tie.Need-same-length-5
-same-length-5 c = c .before .before .before .before .before .before .clear2 .kept .0 ∙ c .before .before .before .before .before .before .before .before .before .before .before .before .before .before .before .before .before .before .before .follow .kept .1 .1 .1 .1 .0
+same-length-5 c =
+    let follow = c .before .before .before .before .before .before .before .before .before .before .before .before .before .before .before .before .before .before .before .follow in
+    c .before .before .before .before .before .before .clear2 .kept .0 ∙ follow .kept .1 .1 .1 .1 .0
 
 same-length-6 : tie.Need-same-length-6
-same-length-6 c = c .before .before .clear3 .kept .0 ∙ c .before .before .before .before .before .before .before .before .before .before .before .before .before .before .before .before .before .before .before .follow .kept .1 .1 .1 .1 .1 .0
+same-length-6 c =
+    let follow = c .before .before .before .before .before .before .before .before .before .before .before .before .before .before .before .before .before .before .before .follow in
+    c .before .before .clear3 .kept .0 ∙ follow .kept .1 .1 .1 .1 .1 .0
 
 returns-2 : tie.Need-returns-2
 returns-2 c =
     let f = c .before .before .before .before .before .before .before .before .before .before .before .before .before .before .before .before .before .before .before .follow in
     let a = c .before .before .before .before .before .before .before .before .before .before .before .before .before .before .before .before .before .before .before .before .before .before .before .before .before .before .before .before .before .args in
     let o = done (a .words .now) (a .a .now) (a .b .now) in
-    rw (c .before .before .before .before .before .before .before .before .before .before .clear .ensures, c .before .before .before .before .before .before .clear2 .ensures, c .before .before .clear3 .ensures)
-    (leaves-cleared (a .c .now) (a .y .now) (a .x .now) (f .last .1 .1 .1 .0) (f .last .1 .1 .1 .1 .0) (f .last .1 .1 .1 .1 .1 .0) o (replyOf (f .result)) (solves-not (f .result) (c .before .before .before .before .before .before .before .before .before .before .before .before .match .keys2)) (follow-not-refused (a .a .now) (a .b .now) (fresh (word (a .words .now) 0)) (chain (a .words .now) .links)) (f .ensures .0) (f .kept .1 .1 .1 .0) (f .kept .1 .1 .1 .1 .0) (f .kept .1 .1 .1 .1 .1 .0))
+    let stopped = solves-not (f .result) (c .before .before .before .before .before .before .before .before .before .before .before .before .match .keys2) in
+    let not-refused = follow-not-refused (a .a .now) (a .b .now) (fresh (word (a .words .now) 0)) (chain (a .words .now) .links) in
+    let y-cleared = c .before .before .before .before .before .before .clear2 .ensures in
+    rw (c .before .before .before .before .before .before .before .before .before .before .clear .ensures, y-cleared, c .before .before .clear3 .ensures)
+    (leaves-cleared (a .c .now) (a .y .now) (a .x .now) (f .last .1 .1 .1 .0) (f .last .1 .1 .1 .1 .0) (f .last .1 .1 .1 .1 .1 .0) o
+    (replyOf (f .result)) stopped not-refused (f .ensures .0) (f .kept .1 .1 .1 .0) (f .kept .1 .1 .1 .1 .0) (f .kept .1 .1 .1 .1 .1 .0))
 
 pub run-records-spec : {M : Type 1} → statement M
 run-records-spec =

@@ -132,7 +132,8 @@ batch-products-requires c κs =
     omega (arith, given (c .before .before .before .before .before .before .before))
 
 -- what the batch adds, and that the sums stay small
-added : (c : tie.After-batch-products Inv-loop μ-loop) → let r = c .before .before .before .before .before .before .before .before in let t = turn (down r) in let a = entry t .args in let m = t .before .loop .m in
+added : (c : tie.After-batch-products Inv-loop μ-loop) → let r = c .before .before .before .before .before .before .before .before in let t = turn (down r) in
+    let a = entry t .args in let m = t .before .loop .m in
     (c .batch-products .result ≡ batchProducts (a .n) (a .plan .now) m)
     × (r .fill-line2 .result .used - down r .fill-line .result .used ≡ rightOf (a .n) (a .plan .now) m)
 added c =
@@ -183,7 +184,8 @@ loop-again c =
     let l = turn d .before .loop in
     let size = r .fill-line2 .kept .1 .1 .0 ∙ pivot-index d .0 in
     rw add-one
-    (pass-next (l .inv) (in-order (turn d)) (column d) (d .fill-line .ensures .1) (c .before .before .before .before .before .before .before .before .before .before .before .before .if1 .left) (row r) size (r .fill-line2 .ensures .1)
+    (pass-next (l .inv) (in-order (turn d)) (column d) (d .fill-line .ensures .1)
+    (c .before .before .before .before .before .before .before .before .before .before .before .before .if1 .left) (row r) size (r .fill-line2 .ensures .1)
     (ap (λ p. l .products + p) (added c .0)) (ap (λ k. l .above + k) (added c .1)))
 
 same-length-4 : tie.Need-same-length-4 Inv-loop μ-loop

@@ -1,6 +1,6 @@
 -- `slots::fill_line` settles the places of a line. The invariant along it: the places before the t-th are done; of the search: no h before the present one
 -- gives a pair. The measures are what is left of the line, and of the search.
-use Prim.Native.Nat.{suc, _-_, _<_}
+use Prim.Native.Nat.{suc, _+_, _-_, _≤_, _<_}
 use native.Mathlib.Numerals.{add-one}
 use native.Mathlib.Omega.{arith}
 use mathlib.Core.Path.{_≡_, sym, _∙_}
@@ -10,7 +10,7 @@ use borrow.Author.Tests.{ltb-true}
 use Rattle.model.specs.Fill.{held}
 use Rattle.slots.proofs.Here.{Here, here, bounds}
 use Rattle.slots.proofs.Search.{Searching, left-inside, right-inside, start-low, search-start, indices, search-found, search-onward, search-ended}
-use Rattle.slots.proofs.Along.{Along, along-start, along-next, along-end, checked-again}
+use Rattle.slots.proofs.Along.{Along, along-start, along-next, along-passed, along-end, checked-again}
 use Rattle.slots.proofs.fill_line.Statement.{statement}
 use Rattle.slots.proofs.fill_line.Tie as tie
 
@@ -26,7 +26,8 @@ Inv-loop n plan work₀ rows₀ columns₀ m across walk₀ t₀ work rows colum
 abbrev μ-loop : tie.MeasureT-loop
 μ-loop n plan work₀ rows₀ columns₀ m across walk₀ t₀ work rows columns walk t = suc n - t
 
--- Places of the code: where a turn stands at its place, with the entry and the line's head before it; that of a search; and the search that a turn ends with.
+-- Places of the code: where a turn stands at its place, with the entry and the line's head before it; that of a search; the search that a turn ends with;
+-- and where its place is settled.
 abbrev Turn : Type 0
 Turn = tie.After-column-of Inv-loop2 μ-loop2 Inv-loop μ-loop
 
@@ -44,6 +45,9 @@ asked c = c .before .before .before .before .before .before
 
 abbrev searched : tie.After-slice-known6 Inv-loop2 μ-loop2 Inv-loop μ-loop → tie.Joined1 Inv-loop2 μ-loop2 Inv-loop μ-loop
 searched c = c .before .before .before .before .before .before .before .before .before .before
+
+abbrev settling : tie.After-pass-empty-arg3 Inv-loop2 μ-loop2 Inv-loop μ-loop → tie.After-slice-known6 Inv-loop2 μ-loop2 Inv-loop μ-loop
+settling c = c .before .before .before
 
 first-of-requires : tie.Need-first-of-requires Inv-loop2 μ-loop2 Inv-loop μ-loop
 first-of-requires c κs = omega (arith, c .before .before .before .before .pre)
@@ -133,7 +137,8 @@ loop2-again c =
     rw add-one (search-onward (at-place (turn l)) (l .loop2 .inv) (c .before .before .before .before .if1 .left) _ (c .before .before .both-used .ensures) (c .before .if2 .left) (c .wide .ensures))
 
 -- the search answers whether the place is held
-found : (c : tie.Joined1 Inv-loop2 μ-loop2 Inv-loop μ-loop) → let t = turn (c .before) in let a = entry t .args in c .if1 .held ≡ held (a .n) (a .plan .now) (t .before .row-of .result) (t .column-of .result)
+found : (c : tie.Joined1 Inv-loop2 μ-loop2 Inv-loop μ-loop) → let t = turn (c .before) in let a = entry t .args in
+    c .if1 .held ≡ held (a .n) (a .plan .now) (t .before .row-of .result) (t .column-of .result)
 found c =
     let at = at-place (turn (c .before)) in
     let s = c .before .loop2 .inv in
@@ -144,18 +149,48 @@ settle-requires c κs =
     let b = bounds (at-place (turn (c .before .before .before .before))) in
     ((omega arith, b .1, omega arith, omega arith), (b .4, b .5))
 
+-- the place is done
+settled : (c : tie.After-pass-empty-arg3 Inv-loop2 μ-loop2 Inv-loop μ-loop) → let t = turn (searched (settling c) .before) in let a = entry t .args in let s = settling c .before .before .before .before .before .before .settle in
+    Along (a .n) (a .plan .now) (a .work .now) (a .across) (a .m) (head t .loop .t + 1) (s .result) (s .last .0) (s .last .1 .0) (s .last .1 .1 .0)
+settled c =
+    let s = searched (settling c) in
+    let t = turn (s .before) in
+    let next = along-next (head t .loop .inv) (t .before .before .loop-test .taken) (at-place t) (asked (s .before) .is-next .ensures) (found s) (settling c .before .before .before .before .before .before .settle .ensures) in
+    rw (add-one (head t .loop .t)) next
+
+add-pass-empty : tie.Need-add-pass-empty Inv-loop2 μ-loop2 Inv-loop μ-loop
+add-pass-empty c = let t = turn (searched (settling c) .before) in omega (arith, t .before .before .loop-test .taken, entry t .pre)
+
+pass-empty-requires : tie.Need-pass-empty-requires Inv-loop2 μ-loop2 Inv-loop μ-loop
+pass-empty-requires c κs =
+    let t = turn (searched (settling c) .before) in
+    let p = entry t .pre in
+    let along = settled c in
+    let s = settling c .before .before .before .before .before .before .settle .ensures in
+    (checked-again (p .0) (along .size), ((p .1 .0, p .1 .1, along .from, along .to, omega (arith, bounds (at-place t) .0, s .done)), along .reached))
+
+-- how far the places that were passed over lead
+passed : (c : tie.After-struct-known2 Inv-loop2 μ-loop2 Inv-loop μ-loop) → let s = settling (c .before .before .before .before .before) in let t = turn (searched s .before) in
+    let far = c .before .before .before .before .pass-empty .result .done - s .before .before .before .before .before .before .settle .result .done in
+    (head t .loop .t + 1 + far ≤ suc (entry t .args .n)) × (entry t .args .n ≤ 600)
+passed c =
+    let t = turn (searched (settling (c .before .before .before .before .before)) .before) in
+    (c .before .before .before .before .pass-empty .ensures .inside, entry t .pre .0 .high)
+
+sub-t : tie.Need-sub-t Inv-loop2 μ-loop2 Inv-loop μ-loop
+sub-t c = c .before .before .before .before .pass-empty .ensures .onward
+
 add-t : tie.Need-add-t Inv-loop2 μ-loop2 Inv-loop μ-loop
-add-t c = let t = turn (searched c .before) in omega (arith, t .before .before .loop-test .taken, entry t .pre)
+add-t c = omega (arith, passed c)
+
+add-t-2 : tie.Need-add-t-2 Inv-loop2 μ-loop2 Inv-loop μ-loop
+add-t-2 c = omega (arith, passed c)
 
 loop-less : tie.Need-loop-less Inv-loop2 μ-loop2 Inv-loop μ-loop
-loop-less c = omega (arith, turn (searched c .before) .before .before .loop-test .taken)
+loop-less c = omega (arith, passed c)
 
 loop-again : tie.Need-loop-again Inv-loop2 μ-loop2 Inv-loop μ-loop
-loop-again c =
-    let s = searched c in
-    let t = turn (s .before) in
-    rw add-one
-    (along-next (head t .loop .inv) (t .before .before .loop-test .taken) (at-place t) (asked (s .before) .is-next .ensures) (found s) (c .before .before .before .before .before .before .settle .ensures))
+loop-again c = along-passed _ (settled (c .before .before .before .before .before)) (c .before .before .before .before .pass-empty .ensures)
 
 same-length : tie.Need-same-length Inv-loop2 μ-loop2 Inv-loop μ-loop
 same-length c = c .before .loop .inv .size
@@ -198,7 +233,11 @@ fill-line-spec =
     loop2-less
     loop2-again
     settle-requires
+    add-pass-empty
+    pass-empty-requires
+    sub-t
     add-t
+    add-t-2
     loop-less
     loop-again
     same-length

@@ -80,9 +80,11 @@ returns-2 : tie.Need-returns-2
 returns-2 c =
     let start = c .before .before .before .before .before .before .before .before .before .before .before .before .before .before .before .before .before .before .before .before .before .before .before .before .before .before .before .before .before .before .args in
     let call = c .before .before .before .before .before .before .before .before .before .before .before .before .before .before .before .before .before .before .before .compile .ensures in
-    let ran = rw (taken (c .before .before .before .before .before .before .before .before .before .before .before)) at (c .before .before .before .before .before .before .run .ensures) in
-    let e =
-    ran-solves _ _ _ _ _ _ (now (start .c)) (now (start .y)) (now (start .x)) _ _ _ (succeeded (c .before .before .before .before .before .before .before .before .before .before .before)) (c .before .before .before .before .before .before .before .before .before .before .before .before .before .before .before .before .before .before .before .before .before .before .before .before .before .before .before .before .shared-slice-known2 .given) (c .before .before .before .before .before .before .before .before .before .before .before .before .before .before .before .before .before .before .before .before .before .before .before .before .before .before .before .shared-slice-known3 .given) in
+    let wide = c .before .before .before .before .before .before .before .before .before .before .before in
+    let ran = rw (taken wide) at (c .before .before .before .before .before .before .run .ensures) in
+    let known = wide .before .before .before .before .before .before .before .before .before .before .before .before .before .before .before .before in
+    let e = ran-solves _ _ _ _ _ _ (now (start .c)) (now (start .y)) (now (start .x)) _ _ _ (succeeded wide)
+    (known .before .shared-slice-known2 .given) (known .shared-slice-known3 .given) in
     (ap tellsOf (ran .0) ∙ e .tells, (ran .0 ∙ e .replies, (call .1 .0, (call .1 .1, (ran .1 .0 ∙ e .c-is, (ran .1 .1 .0 ∙ e .y-is, ran .1 .1 .1 ∙ e .x-is))))))
 
 pub solve-spec : {M : Type 1} → statement M

@@ -129,14 +129,16 @@ unfolding kindOf step starting
 returns c =
     let s = start (c .before .before .before) in
     let a = s .args in
-    gives-open (a .a .now) (a .b .now) (a .c .now) (a .y .now) (a .x .now) (a .z) (s .pre .sound) (kindOf (a .kind)) (a .p) (a .q) C (a .q) _ _ refl (ap kindOf (c .before .before .match .keys1)) (c .«open» .ensures) (c .before .coefficient .ensures)
+    gives-open (a .a .now) (a .b .now) (a .c .now) (a .y .now) (a .x .now) (a .z) (s .pre .sound) (kindOf (a .kind)) (a .p) (a .q) C (a .q) _ _ refl
+    (ap kindOf (c .before .before .match .keys1)) (c .«open» .ensures) (c .before .coefficient .ensures)
 
 returns-2 : tie.Need-returns-2
 unfolding kindOf step starting
 returns-2 c =
     let s = start (c .before .before .before .before) in
     let a = s .args in
-    gives-open (a .a .now) (a .b .now) (a .c .now) (a .y .now) (a .x .now) (a .z) (s .pre .sound) (kindOf (a .kind)) (a .p) (a .q) Y (a .p) _ _ refl (ap kindOf (c .before .before .before .match .keys2)) (c .open2 .ensures) (c .before .read .ensures ∙ ap clean (c .before .before .entry .ensures))
+    gives-open (a .a .now) (a .b .now) (a .c .now) (a .y .now) (a .x .now) (a .z) (s .pre .sound) (kindOf (a .kind)) (a .p) (a .q) Y (a .p) _ _ refl
+    (ap kindOf (c .before .before .before .match .keys2)) (c .open2 .ensures) (c .before .read .ensures ∙ ap clean (c .before .before .entry .ensures))
 
 same-length : tie.Need-same-length
 same-length c = search needs
@@ -147,7 +149,8 @@ returns-3 c =
     let s = start (c .before .before .before .before) in
     let a = s .args in
     let of = allowed-as (s .pre) (ap kindOf (c .before .before .before .match .keys3)) in
-    gives-open (a .a .now) (a .b .now) (a .c .now) (a .y .now) (a .x .now) (a .z) (s .pre .sound) (kindOf (a .kind)) (a .p) (a .q) X (a .p) _ _ refl (ap kindOf (c .before .before .before .match .keys3)) (c .open3 .ensures) (c .before .entry2 .ensures ∙ entry-y (a .z) (a .c .now) (a .y .now) (a .x .now) (a .p) of)
+    gives-open (a .a .now) (a .b .now) (a .c .now) (a .y .now) (a .x .now) (a .z) (s .pre .sound) (kindOf (a .kind)) (a .p) (a .q) X (a .p) _ _ refl
+    (ap kindOf (c .before .before .before .match .keys3)) (c .open3 .ensures) (c .before .entry2 .ensures ∙ entry-y (a .z) (a .c .now) (a .y .now) (a .x .now) (a .p) of)
 
 same-length-2 : tie.Need-same-length-2
 same-length-2 c = search needs
@@ -158,7 +161,10 @@ returns-4 c =
     let s = start (c .before .before .before .before .before .before) in
     let a = s .args in
     let of = allowed-as (s .pre) (ap kindOf (c .before .before .before .before .before .match .keys4)) in
-    gives-subtract (a .a .now) (a .b .now) (a .c .now) (a .y .now) (a .x .now) (a .z) (s .pre .sound) (kindOf (a .kind)) (a .p) (a .q) C _ _ _ (ap kindOf (c .before .before .before .before .before .match .keys4)) (c .subtract .ensures) (c .before .before .before .entry3 .ensures ∙ entry-c (a .z) (a .c .now) (a .y .now) (a .x .now) (a .p) (of .0)) (c .before .entry4 .ensures ∙ entry-c (a .z) (a .c .now) (a .y .now) (a .x .now) (a .q) (of .1))
+    gives-subtract (a .a .now) (a .b .now) (a .c .now) (a .y .now) (a .x .now) (a .z) (s .pre .sound) (kindOf (a .kind)) (a .p) (a .q) C _ _ _
+    (ap kindOf (c .before .before .before .before .before .match .keys4)) (c .subtract .ensures)
+    (c .before .before .before .entry3 .ensures ∙ entry-c (a .z) (a .c .now) (a .y .now) (a .x .now) (a .p) (of .0))
+    (c .before .entry4 .ensures ∙ entry-c (a .z) (a .c .now) (a .y .now) (a .x .now) (a .q) (of .1))
 
 same-length-3 : tie.Need-same-length-3
 same-length-3 c = search needs
@@ -172,7 +178,10 @@ returns-5 c =
     let s = start (c .before .before .before .before .before .before) in
     let a = s .args in
     let of = allowed-as (s .pre) (ap kindOf (c .before .before .before .before .before .match .keys5)) in
-    gives-subtract (a .a .now) (a .b .now) (a .c .now) (a .y .now) (a .x .now) (a .z) (s .pre .sound) (kindOf (a .kind)) (a .p) (a .q) Y _ _ _ (ap kindOf (c .before .before .before .before .before .match .keys5)) (c .subtract2 .ensures) (c .before .before .before .entry5 .ensures ∙ entry-c (a .z) (a .c .now) (a .y .now) (a .x .now) (a .p) (of .0)) (c .before .entry6 .ensures ∙ entry-y (a .z) (a .c .now) (a .y .now) (a .x .now) (a .q) (of .1))
+    gives-subtract (a .a .now) (a .b .now) (a .c .now) (a .y .now) (a .x .now) (a .z) (s .pre .sound) (kindOf (a .kind)) (a .p) (a .q) Y _ _ _
+    (ap kindOf (c .before .before .before .before .before .match .keys5)) (c .subtract2 .ensures)
+    (c .before .before .before .entry5 .ensures ∙ entry-c (a .z) (a .c .now) (a .y .now) (a .x .now) (a .p) (of .0))
+    (c .before .entry6 .ensures ∙ entry-y (a .z) (a .c .now) (a .y .now) (a .x .now) (a .q) (of .1))
 
 same-length-5 : tie.Need-same-length-5
 same-length-5 c = search needs
@@ -186,7 +195,10 @@ returns-6 c =
     let s = start (c .before .before .before .before .before .before) in
     let a = s .args in
     let of = allowed-as (s .pre) (ap kindOf (c .before .before .before .before .before .match .keys6)) in
-    gives-subtract (a .a .now) (a .b .now) (a .c .now) (a .y .now) (a .x .now) (a .z) (s .pre .sound) (kindOf (a .kind)) (a .p) (a .q) X _ _ _ (ap kindOf (c .before .before .before .before .before .match .keys6)) (c .subtract3 .ensures) (c .before .before .before .entry7 .ensures ∙ entry-c (a .z) (a .c .now) (a .y .now) (a .x .now) (a .p) (of .0)) (c .before .entry8 .ensures ∙ entry-x (a .z) (a .c .now) (a .y .now) (a .x .now) (a .q) (s .pre .sound .in-x) (of .1 .0) (of .1 .1))
+    gives-subtract (a .a .now) (a .b .now) (a .c .now) (a .y .now) (a .x .now) (a .z) (s .pre .sound) (kindOf (a .kind)) (a .p) (a .q) X _ _ _
+    (ap kindOf (c .before .before .before .before .before .match .keys6)) (c .subtract3 .ensures)
+    (c .before .before .before .entry7 .ensures ∙ entry-c (a .z) (a .c .now) (a .y .now) (a .x .now) (a .p) (of .0))
+    (c .before .entry8 .ensures ∙ entry-x (a .z) (a .c .now) (a .y .now) (a .x .now) (a .q) (s .pre .sound .in-x) (of .1 .0) (of .1 .1))
 
 same-length-7 : tie.Need-same-length-7
 same-length-7 c = search needs
@@ -197,7 +209,8 @@ returns-7 c =
     let s = start (c .before .before .before .before) in
     let a = s .args in
     let of = allowed-as (s .pre) (ap kindOf (c .before .before .before .match .keys7)) in
-    gives-divide (a .a .now) (a .b .now) (a .c .now) (a .y .now) (a .x .now) (a .z) (s .pre .sound) (kindOf (a .kind)) (a .p) (a .q) _ _ (ap kindOf (c .before .before .before .match .keys7)) (c .divide .ensures) (c .before .entry9 .ensures ∙ entry-c (a .z) (a .c .now) (a .y .now) (a .x .now) (a .p) of)
+    gives-divide (a .a .now) (a .b .now) (a .c .now) (a .y .now) (a .x .now) (a .z) (s .pre .sound) (kindOf (a .kind)) (a .p) (a .q) _ _
+    (ap kindOf (c .before .before .before .match .keys7)) (c .divide .ensures) (c .before .entry9 .ensures ∙ entry-c (a .z) (a .c .now) (a .y .now) (a .x .now) (a .p) of)
 
 same-length-8 : tie.Need-same-length-8
 same-length-8 c = search needs
@@ -211,9 +224,8 @@ same-length-10 c = search needs
 returns-8 : tie.Need-returns-8
 unfolding kindOf step
 returns-8 c =
-    let s = start (c .before .before .before .before .before .before .before .before .before .before .before) in
-    let a = s .args in
-    rw (c .before .before .before .before .before .before .before .before .before .before .match .keys8) (ap going (c .before .before .before .before .before .before .close .ensures .0), c .before .before .before .before .before .before .close .ensures .1)
+    let close = c .before .before .before .before .before .before .close in
+    rw (c .before .before .before .before .before .before .before .before .before .before .match .keys8) (ap going (close .ensures .0), close .ensures .1)
 
 returns-9 : tie.Need-returns-9
 unfolding kindOf step
@@ -232,17 +244,22 @@ same-length-13 c = search needs
 returns-10 : tie.Need-returns-10
 unfolding kindOf step
 returns-10 c =
-    let s = start (c .before .before .before .before .before .before .before .before .before .before .before .before .before) in
-    let a = s .args in
-    rw (c .before .before .before .before .before .before .before .before .before .before .before .before .match .keys9, sym (c .before .before .before .before .before .before .before .before .before .before .before .is-zero .ensures) ∙ c .before .before .before .before .before .before .before .before .before .before .if1 .left) (ap going (c .before .before .before .before .before .before .close2 .ensures .0), c .before .before .before .before .before .before .close2 .ensures .1)
+    let close = c .before .before .before .before .before .before .close2 in
+    let not-zero = sym (c .before .before .before .before .before .before .before .before .before .before .before .is-zero .ensures)
+    ∙ c .before .before .before .before .before .before .before .before .before .before .if1 .left in
+    rw (c .before .before .before .before .before .before .before .before .before .before .before .before .match .keys9, not-zero) (ap going (close .ensures .0), close .ensures .1)
 
 returns-11 : tie.Need-returns-11
 unfolding step
 returns-11 c =
     let s = start (c .before) in
     let a = s .args in
-    let other = c .match .rest in
-    (ap (λ k. step (a .a .now) (a .b .now) (stateOf (a .z) (a .c .now) (a .y .now) (a .x .now)) k (a .p) (a .q)) (sym (no-kind (a .kind) (other .0 .0 .0 .0 .0 .0 .0 .0 .1) (other .0 .0 .0 .0 .0 .0 .0 .1) (other .0 .0 .0 .0 .0 .0 .1) (other .0 .0 .0 .0 .0 .1) (other .0 .0 .0 .0 .1) (other .0 .0 .0 .1) (other .0 .0 .1) (other .0 .1) (other .1))), s .pre .sound)
+    let other = c .match .rest in (
+      ap (λ k. step (a .a .now) (a .b .now) (stateOf (a .z) (a .c .now) (a .y .now) (a .x .now)) k (a .p) (a .q))
+          (sym (no-kind (a .kind) (other .0 .0 .0 .0 .0 .0 .0 .0 .1) (other .0 .0 .0 .0 .0 .0 .0 .1) (other .0 .0 .0 .0 .0 .0 .1) (other .0 .0 .0 .0 .0 .1)
+          (other .0 .0 .0 .0 .1) (other .0 .0 .0 .1) (other .0 .0 .1) (other .0 .1) (other .1))),
+      s .pre .sound,
+    )
 
 pub step-spec : {M : Type 1} → statement M
 step-spec =

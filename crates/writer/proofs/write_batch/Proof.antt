@@ -90,9 +90,10 @@ returns c =
     let wide2 = c .before .before .before .before .before .before .before .before .before .before .wide2 in
     let write-forward = c .before .before .before .before .before .before .write-forward in
     let write-line2 = c .before .before .write-line2 in
-    let forward-written = lent-back _ _ _ _ (ap (_*_ 4) (wide2 .ensures)) _ _ (write-forward .ensures) in
-    (parts-written (batch-parts _ _ _ _) (start .pre .1 .1 .1) (write-line .ensures .0) forward-written (wrote-none _ _ _) (write-line2 .ensures .0),
-    onward (start .pre .1 .0) (write-line2 .ensures .1))
+    let forward-written = lent-back _ _ _ _ (ap (_*_ 4) (wide2 .ensures)) _ _ (write-forward .ensures) in (
+      parts-written (batch-parts _ _ _ _) (start .pre .1 .1 .1) (write-line .ensures .0) forward-written (wrote-none _ _ _) (write-line2 .ensures .0),
+      onward (start .pre .1 .0) (write-line2 .ensures .1),
+    )
 
 pub write-batch-spec : {M : Type 1} → statement M
 write-batch-spec =

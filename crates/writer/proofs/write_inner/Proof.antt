@@ -41,11 +41,12 @@ loop-holds : tie.Need-loop-holds Inv-loop μ-loop
 loop-holds c =
     let start = c .before .before .before .before .before .before .before .before in
     let earlier = c .before .before .before .before .before .earlier in
-    let later = c .before .before .before .before .later in
-    (earlier .ensures,
-    rw (later .ensures) (rising-skips _ _ _ _ _ _ (start .pre .1 .1 .0) (start .pre .1 .1 .1)),
-    (λ below. c .before .before .wide .ensures ∙ (c .before .before .before .label .ensures ∙ label-answered _ _ _ _ (start .pre .0) (omega arith))),
-    λ below. c .wide2 .ensures ∙ (c .before .label2 .ensures ∙ label-answered _ _ _ _ (start .pre .0) (omega arith)))
+    let later = c .before .before .before .before .later in (
+      earlier .ensures,
+      rw (later .ensures) (rising-skips _ _ _ _ _ _ (start .pre .1 .1 .0) (start .pre .1 .1 .1)),
+      (λ below. c .before .before .wide .ensures ∙ (c .before .before .before .label .ensures ∙ label-answered _ _ _ _ (start .pre .0) (omega arith))),
+      λ below. c .wide2 .ensures ∙ (c .before .label2 .ensures ∙ label-answered _ _ _ _ (start .pre .0) (omega arith)),
+    )
 
 row : (c : tie.In-loop Inv-loop μ-loop)
     → let a = c .before .before .before .before .before .before .before .before .before .before .args in Stands (a .n) (now (a .work)) (a .i) (c .before .loop .h) (c .before .loop .across)
@@ -110,11 +111,12 @@ loop-less c = omega arith
 loop-again : tie.Need-loop-again Inv-loop μ-loop
 loop-again c =
     let loop = c .before .before .before .before .before .before .before .before .loop in
-    let turn = c .before .before .before .before .before .before .before in
-    (loop .inv .0,
-    rising-more _ _ _ _ _ _ _ _ _ (loop .inv .1) _ _ (omega arith) (rw (← inner-at (row turn) (column turn)) at (c .before .before .before .subtract .ensures)),
-    (λ below. label-across _ _ _ _ _ (row turn .is) (c .wide3 .ensures) (omega arith) (omega arith) (omega arith)),
-    λ below. label-downward _ _ _ _ _ (column turn .is) (c .wide3 .ensures) (omega arith) (omega arith) (omega arith))
+    let turn = c .before .before .before .before .before .before .before in (
+      loop .inv .0,
+      rising-more _ _ _ _ _ _ _ _ _ (loop .inv .1) _ _ (omega arith) (rw (← inner-at (row turn) (column turn)) at (c .before .before .before .subtract .ensures)),
+      (λ below. label-across _ _ _ _ _ (row turn .is) (c .wide3 .ensures) (omega arith) (omega arith) (omega arith)),
+      λ below. label-downward _ _ _ _ _ (column turn .is) (c .wide3 .ensures) (omega arith) (omega arith) (omega arith),
+    )
 
 returns : tie.Need-returns Inv-loop μ-loop
 returns c = rising-ends _ _ _ _ _ _ _ _ _ (c .before .loop .inv .1) (omega arith)

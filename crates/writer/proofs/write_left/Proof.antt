@@ -29,9 +29,10 @@ wide-requires c κs = search needs
 
 loop-holds : tie.Need-loop-holds Inv-loop μ-loop
 loop-holds c =
-    let start = c .before .before .before .before .before in
-    (rw (c .before .before .later .ensures) (rising-skips _ _ _ _ _ _ (start .pre .1 .1 .0) (start .pre .1 .1 .1)),
-    λ below. c .wide .ensures ∙ (c .before .label .ensures ∙ label-answered _ _ _ _ (start .pre .0) (omega arith)))
+    let start = c .before .before .before .before .before in (
+      rw (c .before .before .later .ensures) (rising-skips _ _ _ _ _ _ (start .pre .1 .1 .0) (start .pre .1 .1 .1)),
+      λ below. c .wide .ensures ∙ (c .before .label .ensures ∙ label-answered _ _ _ _ (start .pre .0) (omega arith)),
+    )
 
 here : (c : tie.In-loop Inv-loop μ-loop)
     → let a = c .before .before .before .before .before .before .before .args in Stands (a .n) (now (a .work)) (a .m) (c .before .loop .h) (c .before .loop .across)
@@ -71,9 +72,10 @@ loop-again : tie.Need-loop-again Inv-loop μ-loop
 loop-again c =
     let loop = c .before .before .before .before .before .before .before .loop in
     let loop-test = c .before .before .before .before .before .before .loop-test in
-    let turn = c .before .before .before .before .before .before in
-    (rising-more _ _ _ _ _ _ _ _ _ (loop .inv .0) _ _ (loop-test .taken) (rw (← forward-at (here turn)) at (c .before .before .before .subtract .ensures)),
-    λ below. label-across _ _ _ _ _ (here turn .is) (c .wide2 .ensures) (omega arith) (omega arith) (omega arith))
+    let turn = c .before .before .before .before .before .before in (
+      rising-more _ _ _ _ _ _ _ _ _ (loop .inv .0) _ _ (loop-test .taken) (rw (← forward-at (here turn)) at (c .before .before .before .subtract .ensures)),
+      λ below. label-across _ _ _ _ _ (here turn .is) (c .wide2 .ensures) (omega arith) (omega arith) (omega arith),
+    )
 
 returns : tie.Need-returns Inv-loop μ-loop
 returns c = rising-ends _ _ _ _ _ _ _ _ _ (c .before .loop .inv .0) (c .loop-test .left)

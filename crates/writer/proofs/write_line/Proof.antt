@@ -1,8 +1,10 @@
 -- `writer::write_line` writes a column or a row. The invariant: the places before the t-th are done. The measure is how many are left.
-use Prim.Native.Nat.{suc, _-_}
+use Prim.Native.Nat.{suc, _+_, _-_, _≤_}
 use native.Mathlib.Omega.{arith}
+use mathlib.Core.Path.{_≡_}
+use lib.ListN.{length}
 use borrow.Author.Needs.{needs}
-use Rattle.writer.proofs.Line.{Along, along-starts, along-place, along-more, along-ends}
+use Rattle.writer.proofs.Line.{Along, along-starts, along-place, along-more, line-long, along-skips, along-ends}
 use Rattle.writer.proofs.Written.{wrote-length}
 use Rattle.writer.proofs.write_line.Statement.{statement}
 use Rattle.writer.proofs.write_line.Tie as tie
@@ -12,6 +14,19 @@ Inv-loop n plan work rows columns words₀ m across divisor at₀ t₀ words at 
 
 abbrev μ-loop : tie.MeasureT-loop
 μ-loop n plan work rows columns words₀ m across divisor at₀ t₀ words at t = suc n - t
+
+-- Places of the code: the line's head and the entry before a place that is written, that it is one of the line, and its writing.
+abbrev head : tie.After-wide Inv-loop μ-loop → tie.At-loop Inv-loop μ-loop
+head c = c .before .before .before .before .before .before .before .before
+
+abbrev entry : tie.After-wide Inv-loop μ-loop → tie.Start Inv-loop μ-loop
+entry c = head c .before .before .before .before .before .before .before
+
+below : (c : tie.After-wide Inv-loop μ-loop) → head c .loop .t ≤ entry c .args .n
+below c = c .before .before .before .before .before .before .before .loop-test .taken
+
+abbrev wrote : tie.After-wide Inv-loop μ-loop → tie.After-write-next Inv-loop μ-loop
+wrote c = c .before .before .before
 
 first-of-requires : tie.Need-first-of-requires Inv-loop μ-loop
 first-of-requires c κs = omega arith
@@ -33,21 +48,53 @@ write-next-requires c κs =
     let loop = c .before .before .before .before .loop in
     (start .pre .0, along-place (loop .inv) (start .pre .1 .0) (c .before .before .before .loop-test .taken) _ _ _ (c .before .row-of .ensures) (c .column-of .ensures) (start .pre .1 .1 .0))
 
+-- the t-th place is written
+place-written : (c : tie.After-wide Inv-loop μ-loop) → let a = entry c .args in let w = wrote c .write-next in
+    Along (a .n) (a .plan .now) (a .work .now) (a .across) (a .m) (a .at .next) (a .words .now) (w .result) (head c .loop .t + 1) (w .last .1 .1 .1 .1 .1 .0)
+place-written c =
+    let p = entry c .pre in
+    let w = wrote c .write-next .ensures in
+    let at = wrote c .before in
+    along-more (head c .loop .inv) (p .1 .0) (below c) _ _ _ (at .before .row-of .ensures) (at .column-of .ensures) (p .1 .1 .0) _ _ (w .0) (w .1)
+
+-- the line's last place has a work number, and so has this one
+room : (c : tie.After-wide Inv-loop μ-loop) → let a = entry c .args in let w = wrote c .write-next in
+    (w .result .done + (a .n - head c .loop .t) ≤ length (a .work .now)) × (w .result .done ≤ 360000)
+room c =
+    let p = entry c .pre in
+    let v = head c .loop .inv in
+    omega (arith, line-long (entry c .args .across) (p .0) (p .1 .0) (v .rising .low) (below c) (v .before), wrote c .write-next .ensures .1 .0)
+
+-- what is passed over lies in the line
+within : (c : tie.After-struct-known Inv-loop μ-loop) → let w = c .before .before in
+    (head w .loop .t + c .before .zeros .result ≤ entry w .args .n) × (entry w .args .n ≤ 600) × (wrote w .write-next .result .done ≤ 360000)
+within c = let w = c .before .before in (omega (arith, c .before .zeros .ensures .0, below w), entry w .pre .0 .covers .high, room w .1)
+
+wide-requires : tie.Need-wide-requires Inv-loop μ-loop
+wide-requires c κs = search needs
+
+zeros-requires : tie.Need-zeros-requires Inv-loop μ-loop
+zeros-requires c κs = omega (arith, room c, c .wide .ensures)
+
+add-at : tie.Need-add-at Inv-loop μ-loop
+add-at c = omega (arith, within c)
+
 add-t : tie.Need-add-t Inv-loop μ-loop
-add-t c = omega arith
+add-t c = omega (arith, within c)
+
+add-t-2 : tie.Need-add-t-2 Inv-loop μ-loop
+add-t-2 c = omega (arith, within c)
 
 loop-less : tie.Need-loop-less Inv-loop μ-loop
-loop-less c = omega arith
+loop-less c = omega (arith, within c)
 
 loop-again : tie.Need-loop-again Inv-loop μ-loop
 loop-again c =
-    let start = c .before .before .before .before .before .before .before .before .before .before .before .before .before .before in
-    let loop = c .before .before .before .before .before .before .before .loop in
-    let loop-test = c .before .before .before .before .before .before .loop-test in
-    let row-of = c .before .before .before .before .row-of in
-    let write-next = c .before .before .write-next in
-    along-more (loop .inv) (start .pre .1 .0) (loop-test .taken) _ _ _ (row-of .ensures) (c .before .before .before .column-of .ensures) (start .pre .1 .1 .0)
-    _ _ (write-next .ensures .0) (write-next .ensures .1)
+    let w = c .before .before in
+    let z = c .before .zeros in
+    let p = entry w .pre in
+    let on : head w .loop .t + (z .result + 1) ≡ head w .loop .t + 1 + z .result = omega arith in
+    rw on (along-skips (p .0) (p .1 .0) (place-written w) (z .result) (omega (arith, within c)) (λ k early. rw (w .wide .ensures) at (z .ensures .1 k early)))
 
 returns : tie.Need-returns Inv-loop μ-loop
 returns c = along-ends (c .before .loop .inv) (c .loop-test .left)
@@ -66,7 +113,11 @@ write-line-spec =
     row-of-requires
     column-of-requires
     write-next-requires
+    wide-requires
+    zeros-requires
+    add-at
     add-t
+    add-t-2
     loop-less
     loop-again
     same-length

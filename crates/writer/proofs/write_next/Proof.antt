@@ -33,9 +33,10 @@ add-label c =
 returns : tie.Need-returns
 returns c =
     let start = c .before .before .before .before .before .before .before .before in
-    let wide = c .before .before .wide in
-    (rw (place-left-out (start .pre .0) _ _ (start .pre .1 .0) (wide .result) _ (ap suc (wide .ensures) ∙ start .pre .1 .1 .0 .here) (c .if1 .taken)) (wrote-none _ _ _),
-    (add-one _, passed-left-out (start .pre .0) _ _ (start .pre .1 .0) _ (start .pre .1 .1 .0) (rw (wide .ensures) at (c .if1 .taken))))
+    let wide = c .before .before .wide in (
+      rw (place-left-out (start .pre .0) _ _ (start .pre .1 .0) (wide .result) _ (ap suc (wide .ensures) ∙ start .pre .1 .1 .0 .here) (c .if1 .taken)) (wrote-none _ _ _),
+      (add-one _, passed-left-out (start .pre .0) _ _ (start .pre .1 .0) _ (start .pre .1 .1 .0) (rw (wide .ensures) at (c .if1 .taken))),
+    )
 
 position-requires : tie.Need-position-requires
 position-requires c κs =
@@ -111,9 +112,10 @@ returns-2 c =
     let start = c .before .before .before .before .before .before .before .before .before .before .before .before .before .before .before .before .before .before .before .before in
     let position = c .before .before .before .before .before .before .before .before .before .before .before .position in
     let found = c .before .before .before .before .before .before .before .before .before .before .before in
-    let wide4 = c .before .before .before .before .before .wide4 in
-    (rw (kept found) (lent-back _ _ _ _ (ap (_*_ 4) (wide4 .ensures)) _ _ (c .before .before .before .write-place .ensures)),
-    (add-one _, c .later2 .ensures ∙ passed-kept (start .pre .0) _ _ (start .pre .1 .0) _ (start .pre .1 .1 .0) _ (position .ensures)))
+    let wide4 = c .before .before .before .before .before .wide4 in (
+      rw (kept found) (lent-back _ _ _ _ (ap (_*_ 4) (wide4 .ensures)) _ _ (c .before .before .before .write-place .ensures)),
+      (add-one _, c .later2 .ensures ∙ passed-kept (start .pre .0) _ _ (start .pre .1 .0) _ (start .pre .1 .1 .0) _ (position .ensures)),
+    )
 
 pub write-next-spec : {M : Type 1} → statement M
 write-next-spec =

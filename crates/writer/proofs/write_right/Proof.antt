@@ -57,9 +57,10 @@ loop-again : tie.Need-loop-again Inv-loop μ-loop
 loop-again c =
     let loop = c .before .before .before .before .before .before .loop in
     let loop-test = c .before .before .before .before .before .loop-test in
-    let turn = c .before .before .before .before .before in
-    (falling-more _ _ _ _ _ _ _ _ _ (loop .inv .0) _ _ (loop-test .taken) (rw (← backward-at (here turn)) at (c .before .before .subtract .ensures)),
-    label-left _ _ _ _ (here turn .is))
+    let turn = c .before .before .before .before .before in (
+      falling-more _ _ _ _ _ _ _ _ _ (loop .inv .0) _ _ (loop-test .taken) (rw (← backward-at (here turn)) at (c .before .before .subtract .ensures)),
+      label-left _ _ _ _ (here turn .is),
+    )
 
 returns : tie.Need-returns Inv-loop μ-loop
 returns c = falling-ends _ _ _ _ _ _ _ _ _ (c .before .loop .inv .0) (c .loop-test .left)

@@ -39,9 +39,10 @@ part-write-backward-end c = search needs
 write-backward-requires : tie.Need-write-backward-requires Inv-loop μ-loop
 unfolding xAt
 write-backward-requires c κs =
-    let start = c .before .before .before .before .before .before in
-    (start .pre .0,
-    (omega arith, lent-room _ _ _ _ (ap (_*_ 4) (c .before .wide .ensures)) (falling-room _ _ _ _ _ _ _ _ _ (c .before .before .before .loop .inv) (c .before .before .loop-test .taken))))
+    let start = c .before .before .before .before .before .before in (
+      start .pre .0,
+      (omega arith, lent-room _ _ _ _ (ap (_*_ 4) (c .before .wide .ensures)) (falling-room _ _ _ _ _ _ _ _ _ (c .before .before .before .loop .inv) (c .before .before .loop-test .taken))),
+    )
 
 sub-i : tie.Need-sub-i Inv-loop μ-loop
 sub-i c = omega arith

@@ -64,24 +64,30 @@ same-length c = search needs
 
 returns : tie.Need-returns
 returns c =
-    let a = c .before .args in
-    (close-c (a .self) (a .c .now) (a .y .now) (a .x .now) (ap tableOf (c .match .keys1)) (free-c c), record { named = c .before .pre .0 .named; in-c = omega (arith, free-c c); in-y = omega arith; in-x = omega arith })
+    let a = c .before .args in (
+      close-c (a .self) (a .c .now) (a .y .now) (a .x .now) (ap tableOf (c .match .keys1)) (free-c c),
+      record { named = c .before .pre .0 .named; in-c = omega (arith, free-c c); in-y = omega arith; in-x = omega arith },
+    )
 
 same-length-2 : tie.Need-same-length-2
 same-length-2 c = search needs
 
 returns-2 : tie.Need-returns-2
 returns-2 c =
-    let a = c .before .args in
-    (close-y (a .self) (a .c .now) (a .y .now) (a .x .now) (ap tableOf (c .match .keys2)) (free-y c), record { named = c .before .pre .0 .named; in-c = omega arith; in-y = omega (arith, free-y c); in-x = omega arith })
+    let a = c .before .args in (
+      close-y (a .self) (a .c .now) (a .y .now) (a .x .now) (ap tableOf (c .match .keys2)) (free-y c),
+      record { named = c .before .pre .0 .named; in-c = omega arith; in-y = omega (arith, free-y c); in-x = omega arith },
+    )
 
 same-length-3 : tie.Need-same-length-3
 same-length-3 c = search needs
 
 returns-3 : tie.Need-returns-3
 returns-3 c =
-    let a = c .before .before .args in
-    (close-x (a .self) (a .c .now) (a .y .now) (a .x .now) (table-x c) (free-x c), record { named = c .before .before .pre .0 .named; in-c = omega arith; in-y = omega arith; in-x = omega (arith, free-x c) })
+    let a = c .before .before .args in (
+      close-x (a .self) (a .c .now) (a .y .now) (a .x .now) (table-x c) (free-x c),
+      record { named = c .before .before .pre .0 .named; in-c = omega arith; in-y = omega arith; in-x = omega (arith, free-x c) },
+    )
 
 pub close-spec : {M : Type 1} → statement M
 close-spec =

@@ -37,8 +37,10 @@ returns-2 : tie.Need-returns-2
 returns-2 c =
     let a = c .before .before .before .before .before .args in
     let xs = a .numbers .now in
-    let call = c .named in
-    (call .ensures .0 ∙ ended-between _ _ (ap stageOf (c .before .before .enum-told .given .1)), (standing (call .result) (a .self .count) (length xs) (call .ensures .1), untouched-same (call .result) xs))
+    let call = c .named in (
+      call .ensures .0 ∙ ended-between _ _ (ap stageOf (c .before .before .enum-told .given .1)),
+      (standing (call .result) (a .self .count) (length xs) (call .ensures .1), untouched-same (call .result) xs),
+    )
 
 same-length-2 : tie.Need-same-length-2
 same-length-2 c = search needs
@@ -48,8 +50,10 @@ returns-3 c =
     let w = c .before .before .before .before in
     let a = w .before .before .before .before .before .before .args in
     let call = c .named2 in
-    let ys = w .join .last .1 .1 .0 in
-    (call .ensures .0 ∙ ap (Text.named (a .self .position)) (w .join .ensures .0) ∙ ended-within _ _ (ap stageOf (w .before .before .before .stage2 .given .1)), (standing (call .result) (w .join .result) (length ys) (call .ensures .1), untouched-joined (w .join .ensures .1) (w .join .kept .1 .1 .0) (call .result) (call .ensures .1)))
+    let ys = w .join .last .1 .1 .0 in (
+      call .ensures .0 ∙ ap (Text.named (a .self .position)) (w .join .ensures .0) ∙ ended-within _ _ (ap stageOf (w .before .before .before .stage2 .given .1)),
+      (standing (call .result) (w .join .result) (length ys) (call .ensures .1), untouched-joined (w .join .ensures .1) (w .join .kept .1 .1 .0) (call .result) (call .ensures .1)),
+    )
 
 pub ended-spec : {M : Type 1} → statement M
 ended-spec =
