@@ -5,17 +5,18 @@ use native.Mathlib.Omega.{arith}
 use mathlib.Core.Path.{_≡_, refl, sym, ap, _∙_}
 use mathlib.Core.Bool.{Bool, true, false, cond, _&&_}
 use mathlib.Core.List.{List}
-use borrow.Author.Tests.{ltb-true, ne-eqb}
+use borrow.Author.Tests.{ne-eqb}
 use lib.Dec.{ltb, eqb}
 use lib.ListN.{length, getD, set, drop}
 use Rattle.model.specs.Fill.{Plan, held}
 use Rattle.model.proofs.Lists.{drop-later}
+use Rattle.model.proofs.Search.{some-none}
 use Rattle.model.proofs.Pointer.{isNext}
 use Rattle.slots.specs.Walked.{Checked, Reached, Passed, Settled}
 use Rattle.slots.specs.Batch.{rowOf, columnOf, firstOf, notedOf}
 use Rattle.slots.specs.declared.Walk.{Walk}
 use Rattle.slots.proofs.Here.{Here, here, bounds, line-next}
-use Rattle.slots.proofs.Search.{search-start, search-ended}
+use Rattle.slots.proofs.Search.{none-before, held-by-work}
 use Rattle.slots.proofs.Settling.{settled-length, settled-rest, settled-walked}
 
 pub checked-again : {N : ℕ} {L : Plan} {work work′ : List ℕ} → Checked N L work → length work′ ≡ length work → Checked N L work′
@@ -75,11 +76,10 @@ pub along-empty : {N : ℕ} {L : Plan} {before : List ℕ} {across : Bool} {m t 
     → Along N L before across m (t + 1) (record { done = walk .done + 1; passed = walk .passed; used = walk .used }) (set work (walk .done) 0) inRows inColumns
 along-empty {N} {L} {across = across} {m} {t} {walk} {inRows = inRows} {inColumns} along checked low high inside other noted =
     let at = here (rowOf across m t) (columnOf across m t) (checked-again checked (along .size)) low high (along .from) inside (along .reached) refl refl in
-    let h = max (getD inRows (rowOf across m t) 0) (getD inColumns (columnOf across m t) 0) in
-    let far : m ≤ h = far-enough across m t inRows inColumns noted in
-    let none : ltb h m ≡ true → ⊥ = λ w. omega (arith, far, ltb-true h m w) in
+    let far = far-enough across m t inRows inColumns noted in
     let p = unplanned (ltb (walk .passed) (length L)) (getD L (walk .passed) 0) (suc (walk .done)) other in
-    rw (add-one t, add-one (walk .done)) (along-next along inside at p (search-ended at (search-start at false h 0 0 refl (λ w. absurd (none w)) (λ w. absurd (none w))) p far)
+    let none = sym (some-none _ (m - 1) (λ h low below. none-before at h low (omega (arith, far)) (omega arith))) ∙ sym (held-by-work at p) in
+    rw (add-one t, add-one (walk .done)) (along-next along inside at p none
     (record { done = refl; passed = refl; used = refl; written = refl; noted-row = record { noted = refl }; noted-column = record { noted = refl } }))
 
 -- what passing places over comes to, and what follows it

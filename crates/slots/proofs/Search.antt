@@ -1,103 +1,108 @@
--- The search at a place: for h from where both lines can first be held, whether (i, h) and (h, j) are held.
-use Prim.Native.Nat.{ℕ, suc, _+_, _-_, _≤_, _<_, max}
+-- The search for a pair at a place: for h from where both lines can first be held, whether (i, h) and (h, j) have work numbers; and that they say what is held.
+use Prim.Native.Nat.{ℕ, suc, _+_, _-_, _*_, _≤_, _<_, min, max}
 use native.Mathlib.Decide.{decLe}
+use native.Mathlib.Nat.{mul-le-mul}
 use native.Mathlib.Omega.{arith}
-use mathlib.Core.Path.{_≡_, refl, sym, ap, ap₂, _∙_}
-use mathlib.Core.Bool.{Bool, true, false, cond, _&&_, and-false, and-eq-true-iff}
+use mathlib.Core.Path.{_≡_, sym, ap, ap₂, _∙_}
+use mathlib.Core.Bool.{Bool, true, false, _&&_, _||_, and-false}
 use mathlib.Core.List.{List}
-use borrow.Author.Tests.{lt-ltb, ltb-true, ltb-false}
 use lib.Dec.{ltb}
 use lib.ListN.{length, getD}
+use Rattle.model.specs.Lists.{some}
 use Rattle.model.specs.Label.{label}
 use Rattle.model.specs.Fill.{Plan, position, held}
-use Rattle.model.proofs.Labels.{Inside, label-earlier}
+use Rattle.model.proofs.Labels.{Inside, label-range, label-earlier}
 use Rattle.model.proofs.Lines.{label-lower-step, label-upper-step}
-use Rattle.model.proofs.Fill.{held-in-plan, held-by-pair, held-not}
+use Rattle.model.proofs.Search.{some-none, some-true, some-same}
+use Rattle.model.proofs.Fill.{held-is}
 use Rattle.model.proofs.Pointer.{isNext, planned-next}
+use Rattle.slots.specs.Batch.{pairAt}
 use Rattle.slots.specs.declared.Walk.{Walk}
-use Rattle.slots.proofs.Here.{Here, work-tested, bounds}
+use Rattle.slots.proofs.Here.{Here, work-tested}
+
+-- ---- the search
 
 -- h is tried next, at the indices low and high; before it none gave a pair
-pub record Searching (N : ℕ) (L : Plan) (m i j : ℕ) (planned : Bool) (h low high : ℕ) : Type 0 where
+pub record Searching (n : ℕ) (work : List ℕ) (m i j h low high : ℕ) : Type 0 where
   pub from : 1 ≤ h
-  pub low-at : h < m → suc low ≡ label N i h
-  pub high-at : h < m → suc high ≡ label N h j
-  pub tried : planned ≡ false → (k : ℕ) → 1 ≤ k → k < h → k < m → (held N L i k && held N L k j) ≡ false
+  pub low-at : h < m → suc low ≡ label n i h
+  pub high-at : h < m → suc high ≡ label n h j
+  pub tried : (k : ℕ) → 1 ≤ k → k < h → k < m → pairAt n work i j k ≡ false
 
-module _ {N : ℕ} {L : Plan} {m i j : ℕ} {walk : Walk} {work inRows inColumns : List ℕ} (at : Here N L m i j walk work inRows inColumns) where
-  -- the two places of a pair, and that they are done
-  pub left-inside : (h : ℕ) → 1 ≤ h → h < m → Inside N i h × (label N i h ≤ walk .done)
-  left-inside h low high =
-      let inside = at .inside in
-      let left : Inside N i h = omega (arith, at .batch) in
-      (left, omega (arith, label-earlier N i h i j left inside (omega (arith, at .batch)), at .next))
+-- the two places of a pair
+pub pair-inside : {n m i j : ℕ} → Inside n i j → min i j ≡ m → (h : ℕ) → 1 ≤ h → h < m → Inside n i h × Inside n h j
+pair-inside inside batch h low high = (omega arith, omega arith)
 
-  pub right-inside : (h : ℕ) → 1 ≤ h → h < m → Inside N h j × (label N h j ≤ walk .done)
-  right-inside h low high =
-      let inside = at .inside in
-      let right : Inside N h j = omega (arith, at .batch) in
-      (right, omega (arith, label-earlier N h j i j right inside (omega (arith, at .batch)), at .next))
-
-  -- where the search starts
-  pub start-low : (planned : Bool) (h : ℕ) → h ≡ cond planned m (max (getD inRows i 0) (getD inColumns j 0)) → 1 ≤ h
-  start-low true h e = omega (arith, at .inside, at .batch)
-  start-low false h e = omega (arith, at .walked .row-low i (omega (arith, at .inside, at .checked)))
-
-  pub search-start : (planned : Bool) (h low high : ℕ) → h ≡ cond planned m (max (getD inRows i 0) (getD inColumns j 0))
-      → (ltb h m ≡ true → suc low ≡ label N i h) → (ltb h m ≡ true → suc high ≡ label N h j) → Searching N L m i j planned h low high
-  search-start planned h low high e left right =
-      record { from = start-low planned h e; low-at = λ l. left (lt-ltb h m l); high-at = λ l. right (lt-ltb h m l); tried = tried planned e }
-    where
-      tried : (b : Bool) → h ≡ cond b m (max (getD inRows i 0) (getD inColumns j 0)) → b ≡ false
-          → (k : ℕ) → 1 ≤ k → k < h → k < m → (held N L i k && held N L k j) ≡ false
-      tried true s f k low before inside = let z : _≡_ {A = ℕ} 0 1 = cc in absurd (omega arith)
-      tried false s f k low before inside =
-          let skips = at .walked .skips in
-          let l = left-inside k low inside in
-          let r = right-inside k low inside in
-          elim (decLe (getD inRows i 0) k) [
-            | yes n ↦ rw (skips .columns j k (r .0) (r .1) (omega arith)) (and-false (held N L i k))
-            | no n ↦ rw (skips .rows i k (l .0) (l .1) (omega arith))
-          ]
-
-  module _ {planned : Bool} {h low high : ℕ} (s : Searching N L m i j planned h low high) where
+module _ {n : ℕ} {work : List ℕ} {m i j : ℕ} (order : (1 ≤ n) × (n ≤ 600)) (long : n * n ≤ length work) (inside : Inside n i j) (batch : min i j ≡ m) where
+  module _ {h low high : ℕ} (s : Searching n work m i j h low high) where
     module _ (before : h < m) where
       pub indices : (low < length work) × (high < length work) × (low < 360000) × (high < 360000)
-      indices = omega (arith, left-inside h (s .from) before .1, right-inside h (s .from) before .1, s .low-at before, s .high-at before, bounds at)
+      indices =
+          let square = mul-le-mul {n₂ = 600} {m₂ = 600} (order .1) (order .1) in
+          let both = pair-inside inside batch h (s .from) before in
+          omega (arith, square, label-range n i h (both .0), label-range n h j (both .1), s .low-at before, s .high-at before)
 
-      pub pair-tested : (ltb 0 (getD work low 0) && ltb 0 (getD work high 0)) ≡ (held N L i h && held N L h j)
-      pair-tested =
-          let left = left-inside h (s .from) before in
-          let right = right-inside h (s .from) before in
-          ap₂ _&&_ (work-tested (at .walked) i h low (left .0) (left .1) (s .low-at before)) (work-tested (at .walked) h j high (right .0) (right .1) (s .high-at before))
+      pair-here : pairAt n work i j h ≡ (ltb 0 (getD work low 0) && ltb 0 (getD work high 0))
+      pair-here =
+          let l : label n i h - 1 ≡ low = omega (arith, s .low-at before) in
+          let r : label n h j - 1 ≡ high = omega (arith, s .high-at before) in
+          rw (l, r)
 
-      -- a pair is found
-      pub search-found : {b : Bool} → b ≡ (ltb 0 (getD work low 0) && ltb 0 (getD work high 0)) → b ≡ true → true ≡ held N L i j
-      search-found e t =
-          let both = and-eq-true-iff (held N L i h) (held N L h j) .0 (sym pair-tested ∙ sym e ∙ t) in
-          sym (held-by-pair N L i j h (s .from) (omega (arith, at .batch)) (omega (arith, at .batch)) (both .0) (both .1))
+      -- a pair is found, or none at h
+      pub search-found : {b : Bool} → b ≡ (ltb 0 (getD work low 0) && ltb 0 (getD work high 0)) → b ≡ true → true ≡ some (pairAt n work i j) (m - 1)
+      search-found e t = sym (some-true _ (m - 1) h (s .from) (omega arith) (pair-here ∙ sym e ∙ t))
 
-      -- none is found at h
-      pub search-onward : {b : Bool} (left : ℕ) → b ≡ (ltb 0 (getD work low 0) && ltb 0 (getD work high 0)) → b ≡ false → left ≡ N - h
-          → Searching N L m i j planned (suc h) (low + (left + left)) (high + (left + left - 1))
+      pub search-onward : {b : Bool} (left : ℕ) → b ≡ (ltb 0 (getD work low 0) && ltb 0 (getD work high 0)) → b ≡ false → left ≡ n - h
+          → Searching n work m i j (suc h) (low + (left + left)) (high + (left + left - 1))
       search-onward left e f l = record {
         from = omega arith;
-        low-at = λ more. omega (arith, s .low-at before, label-lower-step N i h (s .from) (omega (arith, at .batch)) (omega (arith, at .inside, at .batch)));
-        high-at = λ more. omega (arith, s .high-at before, label-upper-step N h j (s .from) (omega (arith, at .batch)) (omega (arith, at .inside, at .batch)));
-        tried = λ p k low below inside. elim (decLe h k) [
-          | yes n ↦ let same : k ≡ h = omega arith in rw same (sym pair-tested ∙ sym e ∙ f)
-          | no n ↦ s .tried p k low (omega arith) inside
+        low-at = λ more. omega (arith, s .low-at before, label-lower-step n i h (s .from) (omega arith) (omega arith));
+        high-at = λ more. omega (arith, s .high-at before, label-upper-step n h j (s .from) (omega arith) (omega arith));
+        tried = λ k low below inside. elim (decLe h k) [
+          | yes above ↦ let same : k ≡ h = omega arith in rw same (pair-here ∙ sym e ∙ f)
+          | no under ↦ s .tried k low (omega arith) inside
         ];
       }
 
     -- none is left
-    pub search-ended : planned ≡ isNext L (walk .passed) (suc (walk .done)) → m ≤ h → planned ≡ held N L i j
-    search-ended p after = step planned refl
-      where
-        in-plan : planned ≡ ltb 0 (position L (label N i j))
-        in-plan = p ∙ ap (λ k. isNext L k (suc (walk .done))) (at .walked .passed) ∙ planned-next N L (at .checked .rises) (walk .done) ∙ ap (λ k. ltb 0 (position L k)) (at .next)
+    pub search-ended : m ≤ h → false ≡ some (pairAt n work i j) (m - 1)
+    search-ended past = sym (some-none _ (m - 1) (λ k low high. s .tried k low (omega arith) (omega arith)))
 
-        step : (b : Bool) → planned ≡ b → planned ≡ held N L i j
-        step true e = e ∙ sym (held-in-plan N L i j (ltb-true 0 (position L (label N i j)) (sym in-plan ∙ e)))
-        step false e = e ∙ sym (held-not N L i j (omega (arith, ltb-false 0 (position L (label N i j)) (sym in-plan ∙ e)))
-            (λ k low below. s .tried e k low (omega (arith, at .batch)) (omega (arith, at .batch))))
+-- ---- what it says of a place
+
+module _ {N : ℕ} {L : Plan} {m i j : ℕ} {walk : Walk} {work inRows inColumns : List ℕ} (at : Here N L m i j walk work inRows inColumns) where
+  -- both places of a pair are done, and their work numbers say whether they are held
+  pair-done : (h : ℕ) → 1 ≤ h → h < m → (label N i h ≤ walk .done) × (label N h j ≤ walk .done)
+  pair-done h low high =
+      let inside = at .inside in
+      let both = pair-inside inside (at .batch) h low high in
+      let left = label-earlier N i h i j (both .0) inside (omega (arith, at .batch)) in
+      let right = label-earlier N h j i j (both .1) inside (omega (arith, at .batch)) in
+      (omega (arith, left, at .next), omega (arith, right, at .next))
+
+  pair-is : (h : ℕ) → 1 ≤ h → h < m → pairAt N work i j h ≡ (held N L i h && held N L h j)
+  pair-is h low high =
+      let both = pair-inside (at .inside) (at .batch) h low high in
+      let done = pair-done h low high in
+      ap₂ _&&_ (work-tested (at .walked) i h _ (both .0) (done .0) (omega (arith, label-range N i h (both .0))))
+      (work-tested (at .walked) h j _ (both .1) (done .1) (omega (arith, label-range N h j (both .1))))
+
+  -- a search starts at what both lines note: below it there is no pair
+  pub start-low : {h : ℕ} → h ≡ max (getD inRows i 0) (getD inColumns j 0) → 1 ≤ h
+  start-low e = omega (arith, at .walked .row-low i (omega (arith, at .inside, at .checked)))
+
+  pub none-before : (h : ℕ) → 1 ≤ h → h < max (getD inRows i 0) (getD inColumns j 0) → h < m → pairAt N work i j h ≡ false
+  none-before h low before high =
+      let skips = at .walked .skips in
+      let both = pair-inside (at .inside) (at .batch) h low high in
+      let done = pair-done h low high in
+      pair-is h low high ∙ elim (decLe (getD inRows i 0) h) [
+        | yes right ↦ rw (skips .columns j h (both .1) (done .1) (omega arith)) (and-false (held N L i h))
+        | no left ↦ rw (skips .rows i h (both .0) (done .0) (omega arith))
+      ]
+
+  -- in the plan, or by a pair
+  pub held-by-work : {planned : Bool} → planned ≡ isNext L (walk .passed) (suc (walk .done)) → held N L i j ≡ (planned || some (pairAt N work i j) (m - 1))
+  held-by-work p =
+      let in-plan = p ∙ ap (λ k. isNext L k (suc (walk .done))) (at .walked .passed) ∙ planned-next N L (at .checked .rises) (walk .done) ∙ ap (λ k. ltb 0 (position L k)) (at .next) in
+      rw (held-is N L i j, in-plan, at .batch) (ap (λ b. ltb 0 (position L (label N i j)) || b) (some-same _ _ (m - 1) (λ h low high. sym (pair-is h low (omega arith)))))

@@ -1,8 +1,10 @@
 -- Batch m's column from the diagonal down or, across, its row right of the diagonal. Definitions only.
-use Prim.Native.Nat.{ℕ, suc}
-use mathlib.Core.Bool.{Bool, cond}
+use Prim.Native.Nat.{ℕ, suc, _-_}
+use mathlib.Core.Bool.{Bool, cond, _&&_}
 use mathlib.Core.List.{List}
+use lib.Dec.{ltb}
 use lib.ListN.{getD}
+use Rattle.model.specs.Label.{label}
 
 -- the row and the column of a line's t-th place, and the first t
 abbrev pub rowOf : Bool → ℕ → ℕ → ℕ
@@ -17,3 +19,7 @@ firstOf across m = cond across (suc m) m
 -- what is noted of the t-th place's other line: of its row on a column, of its column on a row
 abbrev pub notedOf : Bool → List ℕ → List ℕ → ℕ → ℕ
 notedOf across inRows inColumns t = cond across (getD inColumns t 0) (getD inRows t 0)
+
+-- whether (i, h) and (h, j) have work numbers
+abbrev pub pairAt : ℕ → List ℕ → ℕ → ℕ → ℕ → Bool
+pairAt n work i j h = ltb 0 (getD work (label n i h - 1) 0) && ltb 0 (getD work (label n h j - 1) 0)

@@ -6,17 +6,18 @@ use lines::first_of;
 use lines::row_of;
 use lines::wide;
 ghost use mathlib.Core.Path.{_≡_};
-ghost use mathlib.Core.Bool.{true, cond, not, _&&_};
-ghost use Prim.Native.Nat.{suc, _+_, _*_, _≤_, _<_, min, max};
+ghost use mathlib.Core.Bool.{true, false, cond, not, _&&_};
+ghost use Prim.Native.Nat.{ℕ, suc, _+_, _-_, _*_, _≤_, _<_, min, max};
 ghost use lib.Dec.{leb, ltb};
 ghost use lib.ListN.{length, getD, set, drop, replicate};
+ghost use Rattle.model.specs.Lists.{some};
 ghost use Rattle.model.specs.Label.{isOrder};
 ghost use Rattle.model.specs.Label.{label as Label·label};
 ghost use Rattle.model.specs.Compile.{judged, good};
 ghost use Rattle.model.proofs.Labels.{Inside};
 ghost use Rattle.model.proofs.Pointer.{isNext};
 ghost use Rattle.slots.specs.Walked.{Checked, Reached, Passed, Settled, Fills};
-ghost use Rattle.slots.specs.Batch.{firstOf, notedOf};
+ghost use Rattle.slots.specs.Batch.{firstOf, notedOf, pairAt};
 
 // How far the places are walked: those done, the plan's labels among them, and the slots given.
 pub struct Walk {
@@ -82,8 +83,7 @@ fn batch_products(down: u32, right: u32) -> u32
     down * right + down + right
 }
 
-// Batch m's column from the diagonal down or, across, its row right of the diagonal. A place that isn't in the plan is held if some h below m
-// has (i, h) and (h, j) held: the search starts where both lines can first be held, steps along their labels and stops at the first such h.
+// Batch m's column from the diagonal down or, across, its row right of the diagonal. A place that isn't in the plan is held if it has a pair.
 fn fill_line(
     n: u32,
     plan: &[u32],
@@ -105,21 +105,7 @@ fn fill_line(
         let i = row_of(across, m, t);
         let j = column_of(across, m, t);
         let planned = is_next(plan, walk);
-        let mut h = search_from(rows, columns, i, j, m, planned);
-        let mut low = index_of(n, i, h, h < m);
-        let mut high = index_of(n, h, j, h < m);
-        let held = loop {
-            if m <= h {
-                break planned;
-            }
-            if both_used(work, low, high) {
-                break true;
-            }
-            let left = wide(n - h);
-            low += left + left;
-            high += left + left - 1;
-            h += 1;
-        };
+        let held = planned || has_pair(n, work, i, j, m, search_from(rows, columns, i, j));
         let settled = settle(work, rows, columns, i, j, planned, held, walk);
         walk = pass_empty(n, plan, work, rows, columns, m, across, t + 1, settled);
         t += walk.done - settled.done + 1;
@@ -200,17 +186,36 @@ fn is_next(plan: &[u32], walk: Walk) -> bool
     passed < plan.len() && plan[passed] == label
 }
 
-// The first h that can give place (i, j) a pair; m, so none, where the place is in the plan.
-fn search_from(rows: &[u32], columns: &[u32], i: u32, j: u32, m: u32, planned: bool) -> u32
+// The first h that can give place (i, j) a pair: where both its lines can first be held.
+fn search_from(rows: &[u32], columns: &[u32], i: u32, j: u32) -> u32
     requires { ⌜ (i < length (now rows)) × (j < length (now columns)) ⌝ }
-    ensures { λ r. ⌜ r ≡ cond planned m (max (getD (now (rows .entry)) i 0) (getD (now (columns .entry)) j 0)) ⌝ }
+    ensures { λ r. ⌜ r ≡ max (getD (now (rows .entry)) i 0) (getD (now (columns .entry)) j 0) ⌝ }
 {
-    if planned {
-        return m;
-    }
     let row = rows[i as usize];
     let column = columns[j as usize];
     if row < column { column } else { row }
+}
+
+// Whether some h below m has work numbers at (i, h) and (h, j): a search from the first h that can, along their labels, to the first that does.
+fn has_pair(n: u32, work: &[u32], i: u32, j: u32, m: u32, from: u32) -> bool
+    requires { ⌜ ((1 ≤ n) × (n ≤ 600)) × (n * n ≤ length (now work)) ⌝ }
+    requires { ⌜ Inside n i j × (min i j ≡ m) ⌝ }
+    requires { ⌜ (1 ≤ from) × ((h : ℕ) → 1 ≤ h → h < from → h < m → pairAt n (now work) i j h ≡ false) ⌝ }
+    ensures { λ r. ⌜ r ≡ some (pairAt n (now (work .entry)) i j) (m - 1) ⌝ }
+{
+    let mut h = from;
+    let mut low = index_of(n, i, h, h < m);
+    let mut high = index_of(n, h, j, h < m);
+    while h < m {
+        if both_used(work, low, high) {
+            return true;
+        }
+        let left = wide(n - h);
+        low += left + left;
+        high += left + left - 1;
+        h += 1;
+    }
+    false
 }
 
 // The index of place (i, j) in the work slice, if it is wanted.

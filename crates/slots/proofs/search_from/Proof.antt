@@ -4,9 +4,6 @@ use borrow.Author.Needs.{needs}
 use Rattle.slots.proofs.search_from.Statement.{statement}
 use Rattle.slots.proofs.search_from.Tie as tie
 
-returns : tie.Need-returns
-returns c = search needs
-
 mul-row : tie.Need-mul-row
 mul-row c = search needs
 
@@ -19,20 +16,19 @@ mul-column c = search needs
 shared-slice-read-column : tie.Need-shared-slice-read-column
 shared-slice-read-column c = search needs
 
-returns-2 : tie.Need-returns-2
-returns-2 c = rw (c .before .before .before .if1 .left) (omega arith)
+returns : tie.Need-returns
+returns c = omega arith
 
-returns-3 : tie.Need-returns-3
-returns-3 c = rw (c .before .before .before .if1 .left) (omega arith)
+returns-2 : tie.Need-returns-2
+returns-2 c = omega arith
 
 pub search-from-spec : {M : Type 1} → statement M
 search-from-spec =
     tie.close
     (tie.spec
-    returns
     mul-row
     shared-slice-read-row
     mul-column
     shared-slice-read-column
-    returns-2
-    returns-3)
+    returns
+    returns-2)
