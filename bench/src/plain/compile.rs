@@ -74,6 +74,13 @@ impl Walk {
     }
 }
 
+/// How far the places have been walked: the labels of the plan passed, and the next place's index.
+struct Reached<'a> {
+    plan: &'a [u32],
+    position: usize,
+    label: usize,
+}
+
 /// How many of the next places, of which the first has this index, are not in the plan and can have no pair in batch m: they take 0.
 fn empties(first: &[usize], m: usize, from: usize, next: Option<&u32>, work: &mut [u32]) -> usize {
     let planned = next.map_or(usize::MAX, |&label| label as usize - 1);
@@ -93,32 +100,34 @@ impl Table {
             below: vec![0; n + 1],
             right: vec![0; n + 1],
         };
-        let (mut position, mut label) = (0, 0);
+        let mut reached = Reached { plan, position: 0, label: 0 };
         for m in 1..=n {
-            let pivot = label;
+            let pivot = reached.label;
             let mut i = m;
             while i <= n {
-                let planned = plan.get(position) == Some(&(label as u32 + 1));
-                position += usize::from(planned);
-                work[label] = table.slot(i, m, planned, work);
-                let empty = empties(&table.first_column[i + 1..], m, label + 1, plan.get(position), work);
-                label += empty + 1;
-                i += empty + 1;
+                i += table.settle(i, m, &mut reached, work);
             }
             if work[pivot] == 0 {
                 return Err(m);
             }
             let mut j = m + 1;
             while j <= n {
-                let planned = plan.get(position) == Some(&(label as u32 + 1));
-                position += usize::from(planned);
-                work[label] = table.slot(m, j, planned, work);
-                let empty = empties(&table.first_row[j + 1..], m, label + 1, plan.get(position), work);
-                label += empty + 1;
-                j += empty + 1;
+                j += table.settle(m, j, &mut reached, work);
             }
         }
         Ok(table)
+    }
+
+    /// A place takes its slot or 0, and those after it in its column or row that can't be held take 0; how many places that is.
+    #[inline(always)]
+    fn settle(&mut self, i: usize, j: usize, reached: &mut Reached, work: &mut [u32]) -> usize {
+        let planned = reached.plan.get(reached.position) == Some(&(reached.label as u32 + 1));
+        reached.position += usize::from(planned);
+        work[reached.label] = self.slot(i, j, planned, work);
+        let first = if j <= i { &self.first_column[i + 1..] } else { &self.first_row[j + 1..] };
+        let places = 1 + empties(first, i.min(j), reached.label + 1, reached.plan.get(reached.position), work);
+        reached.label += places;
+        places
     }
 
     /// The slot of a place, or 0.
