@@ -67,7 +67,8 @@ words-again-done words bytes again few fits room =
     let count : words ≡ 4 * words / 4 = omega arith in
     ap filed count ∙ reads-done (4 * words) again (omega arith) (omega arith) ∙ ap (λ r. andThen r (λ k. reads k again)) (writes-done words bytes few fits)
 
-pub bytes-again-done : (bytes words again : ℕ) → bytes ≤ 1600000000 → bytes % 4 ≡ 0 → bytes / 4 ≤ words → bytes ≤ again → filed bytes ≡ bytesAgain bytes words again
+pub bytes-again-done : (bytes words again : ℕ) → bytes ≤ 1600000000 → bytes % 4 ≡ 0 → bytes / 4 ≤ words → bytes ≤ again
+    → filed bytes ≡ bytesAgain bytes words again
 unfolding bytesAgain
 bytes-again-done bytes words again few even fits room =
     let count : bytes ≡ 4 * (bytes / 4) = omega arith in

@@ -37,16 +37,19 @@ module _ (bytes words : ℕ) where
   reads-done even fits = simp (eq-eqb (bytes % 4) 0 even, le-leb (bytes / 4) words fits, reads)
 
 -- the lent slices by the answer
-pub written : (ws bs : List ℕ) {r : Filed} → r ≡ writes (length ws) (length bs) → (r ≡ writes (length ws) (length bs)) × (lentAfter r (bytesOf ws) bs ≡ bytesAfter ws bs)
+pub written : (ws bs : List ℕ) {r : Filed} → r ≡ writes (length ws) (length bs)
+    → (r ≡ writes (length ws) (length bs)) × (lentAfter r (bytesOf ws) bs ≡ bytesAfter ws bs)
 unfolding bytesAfter
 written ws bs e = (e, ap (λ r. lentAfter r (bytesOf ws) bs) e)
 
-pub made : (bs ws : List ℕ) {r : Filed} → r ≡ reads (length bs) (length ws) → (r ≡ reads (length bs) (length ws)) × (lentAfter r (wordsOf bs) ws ≡ wordsAfter bs ws)
+pub made : (bs ws : List ℕ) {r : Filed} → r ≡ reads (length bs) (length ws)
+    → (r ≡ reads (length bs) (length ws)) × (lentAfter r (wordsOf bs) ws ≡ wordsAfter bs ws)
 unfolding wordsAfter
 made bs ws e = (e, ap (λ r. lentAfter r (wordsOf bs) ws) e)
 
 -- an answer that is no refusal passed the first test, and is the entries needed
-done : (a b : Bool) (number n : ℕ) {k : ℕ} → filed k ≡ elim a [ false ↦ refusal number 0 | true ↦ elim b [ false ↦ refusal 19 n | true ↦ filed n ] ] → (a ≡ true) × (k ≡ n)
+done : (a b : Bool) (number n : ℕ) {k : ℕ} → filed k ≡ elim a [ false ↦ refusal number 0 | true ↦ elim b [ false ↦ refusal 19 n | true ↦ filed n ] ]
+    → (a ≡ true) × (k ≡ n)
 done false b number n e = let z : _≡_ {A = ℕ} 0 1 = cc in absurd (omega arith)
 done true false number n e = let z : _≡_ {A = ℕ} 0 1 = cc in absurd (omega arith)
 done true true number n e = (refl, cc)

@@ -100,7 +100,8 @@ fn word_of(a: u8, b: u8, c: u8, d: u8) -> u32
 pub fn words_again(words: &[u32], bytes: &mut [u8], again: &mut [u32]) -> Filing
     ensures { λ r. ⌜ filedOf r ≡ wordsAgain (length (now (words .entry))) (length (now (bytes .entry))) (length (now (again .entry))) ⌝ }
     ensures { λ r. ⌜ now (bytes .exit) ≡ bytesAfter (now (words .entry)) (now (bytes .entry)) ⌝ }
-    ensures { λ r. ⌜ now (again .exit) ≡ lentAfter (wordsAgain (length (now (words .entry))) (length (now (bytes .entry))) (length (now (again .entry)))) (now (words .entry)) (now (again .entry)) ⌝ }
+    ensures { λ r. ⌜ (let lent = now (again .entry) in
+        now (again .exit) ≡ lentAfter (wordsAgain (length (now (words .entry))) (length (now (bytes .entry))) (length lent)) (now (words .entry)) lent) ⌝ }
 {
     let written = write_file(words, bytes);
     let Filing::Done(k) = written else {
@@ -114,7 +115,8 @@ pub fn words_again(words: &[u32], bytes: &mut [u8], again: &mut [u32]) -> Filing
 pub fn bytes_again(bytes: &[u8], words: &mut [u32], again: &mut [u8]) -> Filing
     ensures { λ r. ⌜ filedOf r ≡ bytesAgain (length (now (bytes .entry))) (length (now (words .entry))) (length (now (again .entry))) ⌝ }
     ensures { λ r. ⌜ now (words .exit) ≡ wordsAfter (now (bytes .entry)) (now (words .entry)) ⌝ }
-    ensures { λ r. ⌜ now (again .exit) ≡ lentAfter (bytesAgain (length (now (bytes .entry))) (length (now (words .entry))) (length (now (again .entry)))) (now (bytes .entry)) (now (again .entry)) ⌝ }
+    ensures { λ r. ⌜ (let lent = now (again .entry) in
+        now (again .exit) ≡ lentAfter (bytesAgain (length (now (bytes .entry))) (length (now (words .entry))) (length lent)) (now (bytes .entry)) lent) ⌝ }
 {
     let read = read_file(bytes, words);
     let Filing::Done(k) = read else {

@@ -9,6 +9,10 @@ use Rattle.codec.proofs.Again.{Front, made-front, first-refused, first-
 use Rattle.codec.proofs.bytes_again.Statement.{statement}
 use Rattle.codec.proofs.bytes_again.Tie as tie
 
+-- Places of the code: the entry, seen from where the file was read.
+abbrev entry : tie.After-slice-known3 → tie.Start
+entry c = c .before .before .before .before .before .before .before
+
 read-file-requires : tie.Need-read-file-requires
 read-file-requires c κs = search needs
 
@@ -24,18 +28,18 @@ same-length c = search needs
 returns : tie.Need-returns
 unfolding bytesAgain
 returns c =
-    let a = c .before .before .before .before .before .before .before .before .before .args in
+    let a = entry (c .before .before) .args in
     let call = c .before .before .before .before .read-file in
-    let both = first-refused _ (λ k. writes k (length (a .again .now))) (a .bytes .now) (a .again .now) _ _ (ap filedOf (c .enum-told .given .1)) (call .ensures .0) in
+    let lent = a .again .now in
+    let both = first-refused _ (λ k. writes k (length lent)) (a .bytes .now) lent _ _ (ap filedOf (c .enum-told .given .1)) (call .ensures .0) in
     (both .0, (call .ensures .1, both .1))
 
 -- the first call was done, and what it wrote stands in front
 module _ (c : tie.After-read) where
-  done : let a = c .before .before .before .before .before .before .before .before .before .args in filed (c .read .given .0 .0) ≡ reads (length (a .bytes .now)) (length (a .words .now))
+  done : let a = entry (c .before .before) .args in filed (c .read .given .0 .0) ≡ reads (length (a .bytes .now)) (length (a .words .now))
   done = sym (ap filedOf (c .read .given .1)) ∙ c .before .before .before .before .read-file .ensures .0
 
-  front : Front (c .read .given .0 .0) (wordsOf (c .before .before .before .before .before .before .before .before .before .args .bytes .now))
-      (c .before .before .before .before .read-file .last .1 .0)
+  front : Front (c .read .given .0 .0) (wordsOf (entry (c .before .before) .args .bytes .now)) (c .before .before .before .before .read-file .last .1 .0)
   front = made-front _ _ _ done (c .before .before .before .before .read-file .ensures .1)
 
 slice-reshare-prefix-write-file : tie.Need-slice-reshare-prefix-write-file
@@ -56,12 +60,14 @@ same-length-3 c = search needs
 returns-2 : tie.Need-returns-2
 unfolding bytesAgain
 returns-2 c =
-    let w = c .before .before .before .before .before .before in
-    let a = w .before .before .before .before .before .before .before .before .before .args in
+    let r = c .before .before .before .before .before .before in
+    let read = r .before .before in
+    let a = entry read .args in
     let call = c .before .before .write-file in
-    let back = bytes-back (a .bytes .now) (a .again .now) _ (λ i. w .before .before .before .before .before .before .before .before .shared-slice-known .given i .fits) (made-count _ _ (done w) .0) (front w) in
-    let both = first-done _ _ (a .bytes .now) (a .again .now) _ (done w) (call .ensures .0 ∙ back .0) (call .ensures .1 ∙ back .1) in
-    (both .0, (w .before .before .before .before .read-file .ensures .1, both .1))
+    let known = read .before .before .before .before .before .before .shared-slice-known in
+    let back = bytes-back (a .bytes .now) (a .again .now) _ (λ i. known .given i .fits) (made-count _ _ (done r) .0) (front r) in
+    let both = first-done _ _ (a .bytes .now) (a .again .now) _ (done r) (call .ensures .0 ∙ back .0) (call .ensures .1 ∙ back .1) in
+    (both .0, (read .before .before .read-file .ensures .1, both .1))
 
 pub bytes-again-spec : {M : Type 1} → statement M
 bytes-again-spec =

@@ -75,7 +75,8 @@ loop-again c =
       omega arith,
       omega arith,
       simp length-set (l .inv .2),
-      ap (λ bytes. wordStored bytes (l .at) (getD (a .words .now) (l .k) 0)) (l .inv .3) ∙ put-turn (a .words .now) (a .bytes .now) (l .k) (l .at) (l .inv .0) (omega arith) (omega arith),
+      ap (λ bytes. wordStored bytes (l .at) (getD (a .words .now) (l .k) 0)) (l .inv .3)
+          ∙ put-turn (a .words .now) (a .bytes .now) (l .k) (l .at) (l .inv .0) (omega arith) (omega arith),
     )
 
 same-length : tie.Need-same-length Inv-loop μ-loop

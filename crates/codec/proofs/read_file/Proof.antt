@@ -24,9 +24,10 @@ same-length c = search needs
 
 returns-3 : tie.Need-returns-3
 returns-3 c =
-    let a = c .before .before .before .before .before .before .before .before .args in
+    let call = c .before .before in
+    let a = call .before .before .before .before .before .before .args in
     let done = made (a .bytes .now) (a .words .now) (reads-done _ _ (omega arith) (omega arith)) in
-    (done .0, c .before .before .take-words .ensures ∙ done .1)
+    (done .0, call .take-words .ensures ∙ done .1)
 
 pub read-file-spec : {M : Type 1} → statement M
 read-file-spec = tie.close (tie.spec returns returns-2 take-words-requires same-length returns-3)

@@ -62,12 +62,14 @@ loop-less c = omega arith
 
 loop-again : tie.Need-loop-again Inv-loop μ-loop
 loop-again c =
-    let l = c .before .before .before .before .before .before .loop in
-    let a = c .before .before .before .before .before .before .before .before .before .args in (
+    let head = c .before .before .before .before .before .before in
+    let l = head .loop in
+    let a = head .before .before .before .args in (
       omega arith,
       omega arith,
       simp length-set (l .inv .2),
-      ap₂ (λ words w. set words (l .k) w) (l .inv .3) (c .word-of .ensures) ∙ take-turn (a .bytes .now) (a .words .now) (l .k) (l .at) (l .inv .0) (omega arith) (omega arith),
+      ap₂ (λ words w. set words (l .k) w) (l .inv .3) (c .word-of .ensures)
+          ∙ take-turn (a .bytes .now) (a .words .now) (l .k) (l .at) (l .inv .0) (omega arith) (omega arith),
     )
 
 same-length : tie.Need-same-length Inv-loop μ-loop

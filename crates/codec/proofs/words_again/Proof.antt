@@ -8,6 +8,10 @@ use Rattle.codec.proofs.Again.{Front, written-front, first-refused, fir
 use Rattle.codec.proofs.words_again.Statement.{statement}
 use Rattle.codec.proofs.words_again.Tie as tie
 
+-- Places of the code: the entry, seen from where the file was written.
+abbrev entry : tie.After-slice-known3 → tie.Start
+entry c = c .before .before .before .before .before .before .before
+
 write-file-requires : tie.Need-write-file-requires
 write-file-requires c κs = search needs
 
@@ -23,18 +27,18 @@ same-length c = search needs
 returns : tie.Need-returns
 unfolding wordsAgain
 returns c =
-    let a = c .before .before .before .before .before .before .before .before .before .args in
+    let a = entry (c .before .before) .args in
     let call = c .before .before .before .before .write-file in
-    let both = first-refused _ (λ k. reads k (length (a .again .now))) (a .words .now) (a .again .now) _ _ (ap filedOf (c .enum-told .given .1)) (call .ensures .0) in
+    let lent = a .again .now in
+    let both = first-refused _ (λ k. reads k (length lent)) (a .words .now) lent _ _ (ap filedOf (c .enum-told .given .1)) (call .ensures .0) in
     (both .0, (call .ensures .1, both .1))
 
 -- the first call was done, and what it wrote stands in front
 module _ (c : tie.After-written) where
-  done : let a = c .before .before .before .before .before .before .before .before .before .args in filed (c .written .given .0 .0) ≡ writes (length (a .words .now)) (length (a .bytes .now))
+  done : let a = entry (c .before .before) .args in filed (c .written .given .0 .0) ≡ writes (length (a .words .now)) (length (a .bytes .now))
   done = sym (ap filedOf (c .written .given .1)) ∙ c .before .before .before .before .write-file .ensures .0
 
-  front : Front (c .written .given .0 .0) (bytesOf (c .before .before .before .before .before .before .before .before .before .args .words .now))
-      (c .before .before .before .before .write-file .last .1 .0)
+  front : Front (c .written .given .0 .0) (bytesOf (entry (c .before .before) .args .words .now)) (c .before .before .before .before .write-file .last .1 .0)
   front = written-front _ _ _ done (c .before .before .before .before .write-file .ensures .1)
 
 slice-reshare-prefix-read-file : tie.Need-slice-reshare-prefix-read-file
@@ -56,11 +60,13 @@ returns-2 : tie.Need-returns-2
 unfolding wordsAgain
 returns-2 c =
     let w = c .before .before .before .before .before .before in
-    let a = w .before .before .before .before .before .before .before .before .before .args in
+    let written = w .before .before in
+    let a = entry written .args in
     let call = c .before .before .read-file in
-    let back = words-back (a .words .now) (a .again .now) _ (λ i. w .before .before .before .before .before .before .before .before .shared-slice-known .given i .fits) (front w) in
+    let known = written .before .before .before .before .before .before .shared-slice-known in
+    let back = words-back (a .words .now) (a .again .now) _ (λ i. known .given i .fits) (front w) in
     let both = first-done _ _ (a .words .now) (a .again .now) _ (done w) (call .ensures .0 ∙ back .0) (call .ensures .1 ∙ back .1) in
-    (both .0, (w .before .before .before .before .write-file .ensures .1, both .1))
+    (both .0, (written .before .before .write-file .ensures .1, both .1))
 
 pub words-again-spec : {M : Type 1} → statement M
 words-again-spec =

@@ -27,9 +27,10 @@ same-length c = search needs
 
 returns-3 : tie.Need-returns-3
 returns-3 c =
-    let a = c .before .before .before .before .before .before .before .before .args in
+    let call = c .before .before in
+    let a = call .before .before .before .before .before .before .args in
     let done = written (a .words .now) (a .bytes .now) (writes-done _ _ (omega arith) (omega arith)) in
-    (done .0, c .before .before .put-words .ensures ∙ done .1)
+    (done .0, call .put-words .ensures ∙ done .1)
 
 pub write-file-spec : {M : Type 1} → statement M
 write-file-spec =
