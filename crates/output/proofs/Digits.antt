@@ -32,7 +32,8 @@ enough : (m n : ℕ) → n < 10 ^ suc m → digits (suc (suc m)) n ≡ digits (s
 enough zero n below = digits-one 1 n below ∙ sym (digits-one 0 n below)
 enough (suc m) n below = by-test (ltb n 10) refl (enough m (n / 10))
   where
-    by-test : (t : Bool) → ltb n 10 ≡ t → (n / 10 < 10 ^ suc m → digits (suc (suc m)) (n / 10) ≡ digits (suc m) (n / 10)) → digits (suc (suc (suc m))) n ≡ digits (suc (suc m)) n
+    by-test : (t : Bool) → ltb n 10 ≡ t → (n / 10 < 10 ^ suc m → digits (suc (suc m)) (n / 10) ≡ digits (suc m) (n / 10))
+        → digits (suc (suc (suc m))) n ≡ digits (suc (suc m)) n
     by-test true e tenths = digits-one (suc (suc m)) n (ltb-true n 10 e) ∙ sym (digits-one (suc m) n (ltb-true n 10 e))
     by-test false e tenths =
         let h = ltb-false n 10 e in

@@ -44,7 +44,8 @@ module _ {b end : ℕ} {buffer : List ℕ} (r : Room b end buffer) (n : ℕ) {mo
   pub room-for : b + most < 64 → end + length (decimal n) < length buffer
   room-for fits = omega (arith, r .below, r .size)
 
-  pub room-after : (after : ℕ) {end' : ℕ} {later : List ℕ} → Put end' later end buffer (entry n after) → length later ≡ length buffer → Room (b + (most + 1)) end' later
+  pub room-after : (after : ℕ) {end' : ℕ} {later : List ℕ} → Put end' later end buffer (entry n after) → length later ≡ length buffer
+      → Room (b + (most + 1)) end' later
   unfolding entry
   room-after after p kept =
       record { below = omega (arith, r .below, p .place, length-append (decimal n) (after ∷ [])); size = kept ∙ r .size }

@@ -45,7 +45,8 @@ put-decimal-returns t c =
     let a = c .before .before .args in
     subst (Put _ _ _ _) (sym (decimal-one (a .n) (omega arith))) (put-byte _ (put-none _ (a .out .now)) (omega (arith, one-count (a .n) (omega arith))))
 
-put-decimal-put-decimal-requires : (t : ℕ) → put-decimal-lts.Need-put-decimal-requires (put-decimal-below t, put-decimal.Post) (put-decimal-at t) put-decimal.Post
+put-decimal-put-decimal-requires : (t : ℕ)
+    → put-decimal-lts.Need-put-decimal-requires (put-decimal-below t, put-decimal.Post) (put-decimal-at t) put-decimal.Post
 put-decimal-put-decimal-requires t c κs =
     let s = c .before .before .before in
     (omega arith, omega (arith, more-count (s .args .n) (s .fits .n .fits) (omega arith)))

@@ -35,15 +35,14 @@ same-length c = search needs
 
 returns : tie.Need-returns
 returns c =
-    put-byte 32
-    (put-byte 100
-    (put-byte 101
-    (put-byte 115
-    (put-byte 117
-    (put-byte 102
-    (put-byte 101
-    (put-byte 114 (put-none 0 (c .args .out .now)) (omega arith)) (simp length-set (omega arith))) (simp length-set (omega arith))) (simp length-set (omega arith)))
-    (simp length-set (omega arith))) (simp length-set (omega arith))) (simp length-set (omega arith))) (simp length-set (omega arith))
+    let r = put-byte 114 (put-none 0 (c .args .out .now)) (omega arith) in
+    let re = put-byte 101 r (simp length-set (omega arith)) in
+    let ref = put-byte 102 re (simp length-set (omega arith)) in
+    let refu = put-byte 117 ref (simp length-set (omega arith)) in
+    let refus = put-byte 115 refu (simp length-set (omega arith)) in
+    let refuse = put-byte 101 refus (simp length-set (omega arith)) in
+    let refused = put-byte 100 refuse (simp length-set (omega arith)) in
+    put-byte 32 refused (simp length-set (omega arith))
 
 pub put-refused-spec : {M : Type 1} → statement M
 put-refused-spec =

@@ -16,8 +16,10 @@ after-word c = record { below = omega (arith, c .put-refused .ensures .place); s
 
 after-number : (c : tie.After-put-entry) → Room 19 (c .put-entry .result) (c .put-entry .last .1 .1 .1 .0)
 after-number c =
-    let s = c .before .before .before .before .before .before .before in
-    room-after (after-word (c .before .before .before .before)) (s .args .number) (decimal-short _ (s .fits .number .fits)) 32 (c .put-entry .ensures) (c .put-entry .kept .1 .1 .1 .0)
+    let word = c .before .before .before .before in
+    let s = word .before .before .before in
+    let few = decimal-short _ (s .fits .number .fits) in
+    room-after (after-word word) (s .args .number) few 32 (c .put-entry .ensures) (c .put-entry .kept .1 .1 .1 .0)
 
 put-entry-requires : tie.Need-put-entry-requires
 put-entry-requires c κs =
@@ -26,8 +28,10 @@ put-entry-requires c κs =
 
 put-entry-requires-2 : tie.Need-put-entry-requires-2
 put-entry-requires-2 c κs =
-    let s = c .before .before .before .before .before .before .before .before .before in
-    room-for (after-number (c .before .before)) (s .args .detail) (decimal-long _ (s .fits .detail .fits)) (omega arith)
+    let number = c .before .before in
+    let word = number .before .before .before .before in
+    let s = word .before .before .before in
+    room-for (after-number number) (s .args .detail) (decimal-long _ (s .fits .detail .fits)) (omega arith)
 
 returns : tie.Need-returns
 unfolding refusalLine
@@ -35,7 +39,8 @@ returns c =
     let number = c .before .before .before in
     let word = number .before .before .before .before in
     let s = word .before .before .before in
-    let end = room-after (after-number number) (s .args .detail) (decimal-long _ (s .fits .detail .fits)) 10 (c .put-entry2 .ensures) (c .put-entry2 .kept .1 .1 .1 .0) in
+    let few = decimal-long _ (s .fits .detail .fits) in
+    let end = room-after (after-number number) (s .args .detail) few 10 (c .put-entry2 .ensures) (c .put-entry2 .kept .1 .1 .1 .0) in
     put-line (put-more (word .put-refused .ensures) (put-more (number .put-entry .ensures) (c .put-entry2 .ensures))) end (omega arith)
 
 pub refusal-line-spec : {M : Type 1} → statement M
