@@ -1,13 +1,15 @@
 // The writer: the records of a plan's formulas, from its work numbers. Document 01, "Records".
+use numbers::larger;
+use numbers::smaller;
+use numbers::wide;
 use slots::lines::column_of;
 use slots::lines::first_of;
 use slots::lines::row_of;
-use slots::lines::wide;
 ghost use mathlib.Core.Path.{_≡_};
 ghost use mathlib.Core.Bool.{cond};
 ghost use mathlib.Core.List.{_∷_, [], _++_};
 ghost use lib.Dec.{eqb};
-ghost use Prim.Native.Nat.{suc, _+_, _*_, _≤_, min, max};
+ghost use Prim.Native.Nat.{suc, _+_, _*_, _≤_, min};
 ghost use lib.ListN.{length, drop};
 ghost use Rattle.model.specs.Fill.{recordCount};
 ghost use Rattle.model.specs.Crout.{forward, backward};
@@ -216,13 +218,13 @@ fn write_next(
         position,
         divisor,
     };
-    let from = later(rows[wide(i)], columns[wide(j)]);
+    let from = larger(rows[wide(i)], columns[wide(j)]);
     let start = 4 * wide(next);
     let after = write_place(n, work, &mut words[start..], next, place, from);
     Cursor {
         next: after,
         done: label,
-        passed: later(passed, position),
+        passed: larger(passed, position),
     }
 }
 
@@ -332,9 +334,9 @@ fn write_inner(
     requires { ⌜ Room first k (upTo (innerAt n (now work) i j) (min i j)) (now rest) ⌝ }
     ensures { λ r. ⌜ Wrote first k (upTo (innerAt n (now (work .entry)) i j) (min i j)) (now (rest .entry)) (now (rest .exit)) r ⌝ }
 {
-    let end = earlier(i, j);
+    let end = smaller(i, j);
     let mut next = k;
-    let mut h = later(1, from);
+    let mut h = larger(1, from);
     let mut across = wide(labels::label(n, i, h));
     let mut down = wide(labels::label(n, h, j));
     while h < end {
@@ -356,7 +358,7 @@ fn write_left(n: u32, work: &[u32], rest: &mut [u32], first: u32, k: u32, m: u32
     ensures { λ r. ⌜ Wrote first k (upTo (forwardAt n (now (work .entry)) m) m) (now (rest .entry)) (now (rest .exit)) r ⌝ }
 {
     let mut next = k;
-    let mut h = later(1, from);
+    let mut h = larger(1, from);
     let mut across = wide(labels::label(n, m, h));
     while h < m {
         next = subtract(rest, first, next, 5, work[across - 1], h);
@@ -421,17 +423,4 @@ fn put(words: &mut [u32], first: u32, k: u32, kind: u32, p: u32, q: u32) -> u32
     words[at + 2] = q;
     words[at + 3] = next;
     next
-}
-
-// The smaller and the larger of two numbers.
-fn earlier(a: u32, b: u32) -> u32
-    ensures { λ r. ⌜ r ≡ min a b ⌝ }
-{
-    if a < b { a } else { b }
-}
-
-fn later(a: u32, b: u32) -> u32
-    ensures { λ r. ⌜ r ≡ max a b ⌝ }
-{
-    if a < b { b } else { a }
 }

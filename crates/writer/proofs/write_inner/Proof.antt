@@ -19,11 +19,11 @@ Inv-loop n work rest₀ first k i j from end next₀ h₀ across₀ down₀ rest
 abbrev μ-loop : tie.MeasureT-loop
 μ-loop n work rest₀ first k i j from end next₀ h₀ across₀ down₀ rest next h across down = end - h
 
-earlier-requires : tie.Need-earlier-requires Inv-loop μ-loop
-earlier-requires c κs = search needs
+smaller-requires : tie.Need-smaller-requires Inv-loop μ-loop
+smaller-requires c κs = search needs
 
-later-requires : tie.Need-later-requires Inv-loop μ-loop
-later-requires c κs = search needs
+larger-requires : tie.Need-larger-requires Inv-loop μ-loop
+larger-requires c κs = search needs
 
 label-requires : tie.Need-label-requires Inv-loop μ-loop
 label-requires c κs = search needs
@@ -40,10 +40,10 @@ wide-requires-2 c κs = search needs
 loop-holds : tie.Need-loop-holds Inv-loop μ-loop
 loop-holds c =
     let start = c .before .before .before .before .before .before .before .before in
-    let earlier = c .before .before .before .before .before .earlier in
-    let later = c .before .before .before .before .later in (
-      earlier .ensures,
-      rw (later .ensures) (rising-skips _ _ _ _ _ _ (start .pre .1 .1 .0) (start .pre .1 .1 .1)),
+    let smaller = c .before .before .before .before .before .smaller in
+    let larger = c .before .before .before .before .larger in (
+      smaller .ensures,
+      rw (larger .ensures) (rising-skips _ _ _ _ _ _ (start .pre .1 .1 .0) (start .pre .1 .1 .1)),
       (λ below. c .before .before .wide .ensures ∙ (c .before .before .before .label .ensures ∙ label-answered _ _ _ _ (start .pre .0) (omega arith))),
       λ below. c .wide2 .ensures ∙ (c .before .label2 .ensures ∙ label-answered _ _ _ _ (start .pre .0) (omega arith)),
     )
@@ -130,8 +130,8 @@ write-inner-spec =
     (tie.spec
     Inv-loop
     μ-loop
-    earlier-requires
-    later-requires
+    smaller-requires
+    larger-requires
     label-requires
     wide-requires
     label-requires-2

@@ -18,8 +18,8 @@ Inv-loop n work rest₀ first k m from next₀ h₀ across₀ rest next h across
 abbrev μ-loop : tie.MeasureT-loop
 μ-loop n work rest₀ first k m from next₀ h₀ across₀ rest next h across = m - h
 
-later-requires : tie.Need-later-requires Inv-loop μ-loop
-later-requires c κs = search needs
+larger-requires : tie.Need-larger-requires Inv-loop μ-loop
+larger-requires c κs = search needs
 
 label-requires : tie.Need-label-requires Inv-loop μ-loop
 label-requires c κs = search needs
@@ -30,7 +30,7 @@ wide-requires c κs = search needs
 loop-holds : tie.Need-loop-holds Inv-loop μ-loop
 loop-holds c =
     let start = c .before .before .before .before .before in (
-      rw (c .before .before .later .ensures) (rising-skips _ _ _ _ _ _ (start .pre .1 .1 .0) (start .pre .1 .1 .1)),
+      rw (c .before .before .larger .ensures) (rising-skips _ _ _ _ _ _ (start .pre .1 .1 .0) (start .pre .1 .1 .1)),
       λ below. c .wide .ensures ∙ (c .before .label .ensures ∙ label-answered _ _ _ _ (start .pre .0) (omega arith)),
     )
 
@@ -89,7 +89,7 @@ write-left-spec =
     (tie.spec
     Inv-loop
     μ-loop
-    later-requires
+    larger-requires
     label-requires
     wide-requires
     loop-holds

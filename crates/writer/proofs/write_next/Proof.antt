@@ -46,23 +46,23 @@ position-requires c κs =
 wide-requires-2 : tie.Need-wide-requires-2
 wide-requires-2 c κs = search needs
 
-mul-later : tie.Need-mul-later
-mul-later c = search needs
+mul-larger : tie.Need-mul-larger
+mul-larger c = search needs
 
-shared-slice-read-later : tie.Need-shared-slice-read-later
-shared-slice-read-later c = search needs
+shared-slice-read-larger : tie.Need-shared-slice-read-larger
+shared-slice-read-larger c = search needs
 
 wide-requires-3 : tie.Need-wide-requires-3
 wide-requires-3 c κs = search needs
 
-mul-later-2 : tie.Need-mul-later-2
-mul-later-2 c = search needs
+mul-larger-2 : tie.Need-mul-larger-2
+mul-larger-2 c = search needs
 
-shared-slice-read-later-2 : tie.Need-shared-slice-read-later-2
-shared-slice-read-later-2 c = search needs
+shared-slice-read-larger-2 : tie.Need-shared-slice-read-larger-2
+shared-slice-read-larger-2 c = search needs
 
-later-requires : tie.Need-later-requires
-later-requires c κs = search needs
+larger-requires : tie.Need-larger-requires
+larger-requires c κs = search needs
 
 wide-requires-4 : tie.Need-wide-requires-4
 wide-requires-4 c κs = search needs
@@ -98,11 +98,11 @@ write-place-requires c κs =
     let wide2 = c .before .before .before .before .before .before .wide2 in
     let found = c .before .before .before .before .before .before .before in
     let wide3 = c .before .before .before .before .wide3 in
-    let none = inner-none (start .pre .0) _ _ _ _ _ (start .pre .1 .0) (wide2 .ensures) (wide3 .ensures) (c .before .before .later .ensures) in
+    let none = inner-none (start .pre .0) _ _ _ _ _ (start .pre .1 .0) (wide2 .ensures) (wide3 .ensures) (c .before .before .larger .ensures) in
     (start .pre .0 .covers, (start .pre .1 .0, (none, lent-room _ _ _ _ (ap (_*_ 4) (c .before .wide4 .ensures)) (rw (kept found) at (start .pre .1 .1 .1)))))
 
-later-requires-2 : tie.Need-later-requires-2
-later-requires-2 c κs = search needs
+larger-requires-2 : tie.Need-larger-requires-2
+larger-requires-2 c κs = search needs
 
 same-length : tie.Need-same-length
 same-length c = search needs
@@ -114,7 +114,7 @@ returns-2 c =
     let found = c .before .before .before .before .before .before .before .before .before .before .before in
     let wide4 = c .before .before .before .before .before .wide4 in (
       rw (kept found) (lent-back _ _ _ _ (ap (_*_ 4) (wide4 .ensures)) _ _ (c .before .before .before .write-place .ensures)),
-      (add-one _, c .later2 .ensures ∙ passed-kept (start .pre .0) _ _ (start .pre .1 .0) _ (start .pre .1 .1 .0) _ (position .ensures)),
+      (add-one _, c .larger2 .ensures ∙ passed-kept (start .pre .0) _ _ (start .pre .1 .0) _ (start .pre .1 .1 .0) _ (position .ensures)),
     )
 
 pub write-next-spec : {M : Type 1} → statement M
@@ -128,12 +128,12 @@ write-next-spec =
     returns
     position-requires
     wide-requires-2
-    mul-later
-    shared-slice-read-later
+    mul-larger
+    shared-slice-read-larger
     wide-requires-3
-    mul-later-2
-    shared-slice-read-later-2
-    later-requires
+    mul-larger-2
+    shared-slice-read-larger-2
+    larger-requires
     wide-requires-4
     mul-start
     mul-write-place
@@ -141,6 +141,6 @@ write-next-spec =
     part-write-place-start
     part-write-place-end
     write-place-requires
-    later-requires-2
+    larger-requires-2
     same-length
     returns-2)
