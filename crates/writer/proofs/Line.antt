@@ -124,7 +124,7 @@ module _ {n : ℕ} {L : Plan} {work : List ℕ} {across : Bool} {m : ℕ} where
       → Before n L (rowOf across m (firstOf across m)) (columnOf across m (firstOf across m)) at → Room 0 (at .next) (lineRecords n L work across m) words
       → Along n L work across m (at .next) words at t words
   along-starts t e inside before room =
-      record { rising = rw e (rising-starts _ _ _ _ _ _ room); high = rw e (first across); before = rw e before }
+      record { rising = rw e (rising-starts room); high = rw e (first across); before = rw e before }
     where
       first : (b : Bool) → firstOf b m ≤ suc n
       first true = omega arith
@@ -140,14 +140,14 @@ module _ {n : ℕ} {L : Plan} {work : List ℕ} {across : Bool} {m : ℕ} where
       pub along-place : Inside n i j × (Before n L i j at × Room 0 (at .next) (placeAt n L work divisor i j) words)
       along-place = (
         rw (row, column) (line-inside n m t across (inside .row-low) (inside .row-high) (along .rising .low) below .0),
-        (rw (row, column) (along .before), rw place-of-line at (rising-room _ _ _ _ _ _ _ _ _ (along .rising) (omega arith))),
+        (rw (row, column) (along .before), rw place-of-line at (rising-room (along .rising) (omega arith))),
       )
 
       pub along-more : (after : Cursor) (words′ : List ℕ) → Wrote 0 (at .next) (placeAt n L work divisor i j) words words′ (after .next)
           → (after .done ≡ suc (at .done)) × (after .passed ≡ passedBy L (after .done)) → Along n L work across m k₀ words₀ after (t + 1) words′
       along-more after words′ wrote moved =
           record {
-            rising = rising-more _ _ _ _ _ _ _ _ _ (along .rising) words′ (after .next) (omega arith) (rw place-of-line wrote);
+            rising = rising-more (along .rising) (omega arith) (rw place-of-line wrote);
             high = omega arith;
             before = record { here = rw (moved .0, add-one) (ap suc (along .before .here) ∙ sym (line-next n m t across (along .rising .low))); passed = moved .1 };
           }
@@ -155,7 +155,7 @@ module _ {n : ℕ} {L : Plan} {work : List ℕ} {across : Bool} {m : ℕ} where
     pub along-ends : n < t → Wrote 0 k₀ (lineRecords n L work across m) words₀ words (at .next) × Before n L (rowOf across m (suc n)) (columnOf across m (suc n)) at
     along-ends past =
         let end : suc n ≡ t = omega (arith, along .high) in
-        (rising-ends _ _ _ _ _ _ _ _ _ (along .rising) (omega arith), rw end (along .before))
+        (rising-ends (along .rising) (omega arith), rw end (along .before))
 
 -- ---- places that aren't kept may be passed over
 
@@ -196,7 +196,7 @@ module _ {n : ℕ} {L : Plan} {work inRows inColumns : List ℕ} {across : Bool}
       let on : t + suc d ≡ t + d + 1 = omega arith in
       let after : Cursor = record { next = at .next; done = at .done + suc d; passed = at .passed } in
       let more : at .done + suc d ≡ at .done + d + 1 = omega arith in
-      rw on (along-more rest inside (omega arith) i j divisor refl refl refl after _ (rw nothing (wrote-none _ _ _))
+      rw on (along-more rest inside (omega arith) i j divisor refl refl refl after _ (rw nothing wrote-none)
       (omega arith, rw more (passed-left-out ready i j (here .0) _ (here .1 .0) empty)))
 
 -- ---- batch m: its column, y(m) and its row

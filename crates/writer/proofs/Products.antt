@@ -31,8 +31,8 @@ pub record Stands (n : ℕ) (work : List ℕ) (i j x : ℕ) : Type 0 where
   pub high : x ≤ length work
   pub small : x ≤ 360000
 
-pub stands : (n : ℕ) (work : List ℕ) (i j x : ℕ) → Covers n work → Inside n i j → x ≡ label n i j → Stands n work i j x
-stands n work i j x covers inside e =
+pub stands : {n : ℕ} {work : List ℕ} {i j x : ℕ} → Covers n work → Inside n i j → x ≡ label n i j → Stands n work i j x
+stands {n} {work} {i} {j} {x} covers inside e =
     let square = mul-le-mul {n₂ = 600} {m₂ = 600} (covers .high) (covers .high) in
     omega (arith, label-range n i j inside)
 
@@ -85,7 +85,10 @@ module _ (f : ℕ → List Record) where
   -- what is left out may be skipped
   skipped : (h d m : ℕ) → ((k : ℕ) → h ≤ k → k < h + d → k < m → f k ≡ []) → joined (rising f h (m - h)) ≡ joined (rising f (h + d) (m - (h + d)))
   skipped h zero m none = let same : h + 0 ≡ h = omega arith in rw same
-  skipped h (suc d) m none = elim (decLe m h) [ yes past ↦ ended past | no below ↦ onward (omega arith) (skipped (h + 1) d m (λ k low high. none k (omega arith) (omega arith))) ]
+  skipped h (suc d) m none = elim (decLe m h) [
+    | yes past ↦ ended past
+    | no below ↦ onward (omega arith) (skipped (h + 1) d m (λ k low high. none k (omega arith) (omega arith)))
+  ]
     where
       ended : m ≤ h → joined (rising f h (m - h)) ≡ joined (rising f (h + suc d) (m - (h + suc d)))
       ended past = rising-none h m past ∙ sym (rising-none (h + suc d) m (omega arith))
@@ -101,28 +104,29 @@ pub record Rising (f : ℕ → List Record) (a o k₀ m : ℕ) (ws₀ : List ℕ
   pub low : a ≤ h
   pub writing : Writing o k₀ (joined (rising f a (m - a))) ws₀ k (joined (rising f h (m - h))) ws
 
-module _ (f : ℕ → List Record) (o k₀ m : ℕ) (ws₀ : List ℕ) where
+module _ {f : ℕ → List Record} {o k₀ m : ℕ} {ws₀ : List ℕ} where
   pub rising-skips : (from : ℕ) → NoneBelow f from m → Room o k₀ (upTo f m) ws₀ → Rising f 1 o k₀ m ws₀ k₀ (max 1 from) ws₀
   rising-skips from none room =
       let start : 1 + (max 1 from - 1) ≡ max 1 from = omega arith in
       record {
         low = omega arith;
-        writing = writing-more (writing-starts room) (wrote-none o k₀ ws₀) (rw start at (skipped f 1 (max 1 from - 1) m (λ k low high below. none k low (omega arith) below)));
+        writing = writing-more (writing-starts room) wrote-none
+            (rw start at (skipped f 1 (max 1 from - 1) m (λ k low high below. none k low (omega arith) below)));
       }
 
-module _ (f : ℕ → List Record) (a o k₀ m : ℕ) (ws₀ : List ℕ) where
+module _ {f : ℕ → List Record} {a o k₀ m : ℕ} {ws₀ : List ℕ} where
   pub rising-starts : Room o k₀ (joined (rising f a (m - a))) ws₀ → Rising f a o k₀ m ws₀ k₀ a ws₀
   rising-starts room = record { low = omega arith; writing = writing-starts room }
 
-  module _ (k h : ℕ) (ws : List ℕ) (r : Rising f a o k₀ m ws₀ k h ws) where
+  module _ {k h : ℕ} {ws : List ℕ} (r : Rising f a o k₀ m ws₀ k h ws) where
     pub rising-room : h < m → Room o k (f h) ws
     rising-room below = writing-room (r .writing) _ (rising-joined f h m below)
 
-    pub rising-more : (ws′ : List ℕ) (k′ : ℕ) → h < m → Wrote o k (f h) ws ws′ k′ → Rising f a o k₀ m ws₀ k′ (h + 1) ws′
-    rising-more ws′ k′ below wrote = record { low = omega arith; writing = writing-more (r .writing) wrote (rising-joined f h m below) }
+    pub rising-more : {ws′ : List ℕ} {k′ : ℕ} → h < m → Wrote o k (f h) ws ws′ k′ → Rising f a o k₀ m ws₀ k′ (h + 1) ws′
+    rising-more below wrote = record { low = omega arith; writing = writing-more (r .writing) wrote (rising-joined f h m below) }
 
     pub rising-ends : m ≤ h → Wrote o k₀ (joined (rising f a (m - a))) ws₀ ws k
-    rising-ends past = writing-ends (r .writing) (wrote-none o k ws) (rising-none f h m past)
+    rising-ends past = writing-ends (r .writing) wrote-none (rising-none f h m past)
 
 -- ---- h falling
 
@@ -145,17 +149,17 @@ module _ (f : ℕ → List Record) where
       let none : h - i ≡ 0 = omega arith in
       rw none
 
-module _ (f : ℕ → List Record) (o k₀ n i : ℕ) (ws₀ : List ℕ) where
+module _ {f : ℕ → List Record} {o k₀ n i : ℕ} {ws₀ : List ℕ} where
   pub falling-starts : i ≤ n → Room o k₀ (downTo f n i) ws₀ → Falling f o k₀ n i ws₀ k₀ n ws₀
   falling-starts inside room = record { low = inside; high = omega arith; writing = writing-starts room }
 
-  module _ (k h : ℕ) (ws : List ℕ) (r : Falling f o k₀ n i ws₀ k h ws) where
+  module _ {k h : ℕ} {ws : List ℕ} (r : Falling f o k₀ n i ws₀ k h ws) where
     pub falling-room : i < h → Room o k (f h) ws
     falling-room above = writing-room (r .writing) _ (falling-joined f h i above)
 
-    pub falling-more : (ws′ : List ℕ) (k′ : ℕ) → i < h → Wrote o k (f h) ws ws′ k′ → Falling f o k₀ n i ws₀ k′ (h - 1) ws′
-    falling-more ws′ k′ above wrote =
+    pub falling-more : {ws′ : List ℕ} {k′ : ℕ} → i < h → Wrote o k (f h) ws ws′ k′ → Falling f o k₀ n i ws₀ k′ (h - 1) ws′
+    falling-more above wrote =
         record { low = omega arith; high = omega arith; writing = writing-more (r .writing) wrote (falling-joined f h i above) }
 
     pub falling-ends : h ≤ i → Wrote o k₀ (downTo f n i) ws₀ ws k
-    falling-ends past = writing-ends (r .writing) (wrote-none o k ws) (falling-none f h i past)
+    falling-ends past = writing-ends (r .writing) wrote-none (falling-none f h i past)

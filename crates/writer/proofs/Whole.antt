@@ -90,11 +90,13 @@ module _ {n : ℕ} {L : Plan} {work inRows inColumns words : List ℕ} {s : ℕ}
       }
 
   -- there are some records, and few enough; and the plan is short enough
-  pub counted : (4 ≤ length (compiledRecords n L)) × (suc (length (compiledRecords n L)) ≡ recordCount n L) × (recordCount n L ≤ 100000000) × (length L ≤ 360000)
+  pub counted : let count = length (compiledRecords n L) in
+      (4 ≤ count) × (suc count ≡ recordCount n L) × (recordCount n L ≤ 100000000) × (length L ≤ 360000)
   unfolding recordCount
   counted =
       let range = within-range n 600 (p .order) in
-      omega (arith, records-counted n L (p .complete), records-at-most n L (range .1), plan-length n L (p .rises), mul-le-mul {n₂ = 600} {m₂ = 600} (range .1) (range .1))
+      let square = mul-le-mul {n₂ = 600} {m₂ = 600} (range .1) (range .1) in
+      omega (arith, records-counted n L (p .complete), records-at-most n L (range .1), plan-length n L (p .rises))
 
   all-records : compiledRecords n L ≡ batchRecords n L work ++ solutionRecords n work
   all-records = records-agree n L work (slots-agree n L work (p .numbers))
@@ -106,24 +108,26 @@ module _ {n : ℕ} {L : Plan} {work inRows inColumns words : List ℕ} {s : ℕ}
   headed-room = omega (arith, counted, p .fits, ap length (headed-is n L words s long), length-drop 4 words)
 
   pub batch-room : Room 0 1 (batchRecords n L work) (headed n L words s)
-  batch-room = room-front 0 1 (headed n L words s) _ (solutionRecords n work) (rw all-records at headed-room)
+  batch-room = room-front (solutionRecords n work) (rw all-records at headed-room)
 
   module _ {ws : List ℕ} {k : ℕ} (batches : Wrote 0 1 (batchRecords n L work) (headed n L words s) ws k) where
     pub solution-room : Room 0 k (solutionRecords n work) ws
-    solution-room = room-back 0 1 (headed n L words s) (batchRecords n L work) (solutionRecords n work) ws k (rw all-records at headed-room) batches
+    solution-room = room-back (rw all-records at headed-room) batches
 
     module _ {ws′ : List ℕ} {end : ℕ} (solution : Wrote 0 k (solutionRecords n work) ws ws′ end) (last : ℕ) (place : last ≡ 4 * end - 1) where
       both : Wrote 0 1 (compiledRecords n L) (headed n L words s) ws′ end
-      both = rw all-records (wrote-more 0 1 (headed n L words s) _ _ ws ws′ k end (rw all-records at headed-room) batches solution)
+      both = rw all-records (wrote-more (rw all-records at headed-room) batches solution)
 
       pub last-inside : (length ws′ ≡ length words) × (last < length ws′)
       last-inside =
-          omega (arith, counted, p .fits, wrote-length 0 1 (headed n L words s) (compiledRecords n L) ws′ end headed-room both, both .next-is, ap length (headed-is n L words s long), length-drop 4 words)
+          let head = ap length (headed-is n L words s long) in
+          omega (arith, counted, p .fits, wrote-length headed-room both, both .next-is, head, length-drop 4 words)
 
       whole : ws′ ≡ n ∷ length L ∷ s ∷ 1 ∷ (linked 1 (compiledRecords n L) ++ drop (4 * recordCount n L) words)
       unfolding pasted
       whole =
-          let past : 4 + length (linked 1 (compiledRecords n L)) ≡ suc (suc (suc (suc (4 * length (compiledRecords n L))))) = omega (arith, linked-length 1 (compiledRecords n L)) in
+          let linked-count = linked-length 1 (compiledRecords n L) in
+          let past : 4 + length (linked 1 (compiledRecords n L)) ≡ suc (suc (suc (suc (4 * length (compiledRecords n L))))) = omega arith in
           let all : 4 * recordCount n L ≡ 4 + 4 * length (compiledRecords n L) = omega (arith, counted) in
           both .words ∙ rw (headed-is n L words s long, past, all)
           (ap (λ rest. n ∷ length L ∷ s ∷ 1 ∷ (linked 1 (compiledRecords n L) ++ rest)) (drop-drop (4 * length (compiledRecords n L)) 4 words))

@@ -50,9 +50,9 @@ pasted-pasted a xs ys ws fits =
 
 -- ---- records
 
-module _ (o k : ℕ) (ws : List ℕ) where
-  pub wrote-length : (rs : List Record) (ws′ : List ℕ) (k′ : ℕ) → Room o k rs ws → Wrote o k rs ws ws′ k′ → length ws′ ≡ length ws
-  wrote-length rs ws′ k′ room wrote = ap length (wrote .words) ∙ pasted-length _ (linked k rs) ws (omega (arith, linked-length k rs))
+module _ {o k : ℕ} {ws : List ℕ} where
+  pub wrote-length : {rs : List Record} {ws′ : List ℕ} {k′ : ℕ} → Room o k rs ws → Wrote o k rs ws ws′ k′ → length ws′ ≡ length ws
+  wrote-length {rs} room wrote = ap length (wrote .words) ∙ pasted-length _ (linked k rs) ws (omega (arith, linked-length k rs))
 
   -- nothing written
   pub wrote-none : Wrote o k [] ws ws k
@@ -65,14 +65,15 @@ module _ (o k : ℕ) (ws : List ℕ) where
   unfolding linked pasted
   wrote-one kind p q room at e =
       record {
-        words = rw (add-one, add-two, add-three, add-one, e) (sets-eq (kind ∷ p ∷ q ∷ suc k ∷ []) ws (4 * (k - o)) (omega arith) ∙ append-assoc (take (4 * (k - o)) ws) _ _);
+        words = rw (add-one, add-two, add-three, add-one, e)
+            (sets-eq (kind ∷ p ∷ q ∷ suc k ∷ []) ws (4 * (k - o)) (omega arith) ∙ append-assoc (take (4 * (k - o)) ws) _ _);
         next-is = refl;
       }
 
   -- one part after another
-  pub wrote-more : (rs ss : List Record) (ws′ ws″ : List ℕ) (k′ k″ : ℕ) → Room o k (rs ++ ss) ws
+  pub wrote-more : {rs ss : List Record} {ws′ ws″ : List ℕ} {k′ k″ : ℕ} → Room o k (rs ++ ss) ws
       → Wrote o k rs ws ws′ k′ → Wrote o k′ ss ws′ ws″ k″ → Wrote o k (rs ++ ss) ws ws″ k″
-  wrote-more rs ss ws′ ws″ k′ k″ room front back =
+  wrote-more {rs} {ss} {k′ = k′} room front back =
       let long = length-append rs ss in
       let start : 4 * (k′ - o) ≡ 4 * (k - o) + length (linked k rs) = omega (arith, linked-length k rs) in
       record {
@@ -80,11 +81,11 @@ module _ (o k : ℕ) (ws : List ℕ) where
         next-is = omega arith;
       }
 
-  pub room-front : (rs ss : List Record) → Room o k (rs ++ ss) ws → Room o k rs ws
-  room-front rs ss room = omega (arith, length-append rs ss)
+  pub room-front : {rs : List Record} (ss : List Record) → Room o k (rs ++ ss) ws → Room o k rs ws
+  room-front {rs} ss room = omega (arith, length-append rs ss)
 
-  pub room-back : (rs ss : List Record) (ws′ : List ℕ) (k′ : ℕ) → Room o k (rs ++ ss) ws → Wrote o k rs ws ws′ k′ → Room o k′ ss ws′
-  room-back rs ss ws′ k′ room wrote = omega (arith, length-append rs ss, wrote-length rs ws′ k′ (room-front rs ss room) wrote)
+  pub room-back : {rs ss : List Record} {ws′ : List ℕ} {k′ : ℕ} → Room o k (rs ++ ss) ws → Wrote o k rs ws ws′ k′ → Room o k′ ss ws′
+  room-back {rs} {ss} room wrote = omega (arith, length-append rs ss, wrote-length (room-front ss room) wrote)
 
 -- Writing under way: of `all`, which goes into ws₀ from record k₀ on, `left` is still to be written, from record k on into ws.
 pub record Writing (o k₀ : ℕ) (all : List Record) (ws₀ : List ℕ) (k : ℕ) (left : List Record) (ws : List ℕ) : Type 0 where
@@ -97,14 +98,14 @@ writing-starts room = record { room = room; goes-on = λ ws′ k′ wrote. wrote
 -- what is left is the records rs and then more: there is room for rs; rs is written; and rs is written, the last of all
 module _ {o k₀ k : ℕ} {all left rs : List Record} {ws₀ ws : List ℕ} (w : Writing o k₀ all ws₀ k left ws) where
   pub writing-room : (more : List Record) → left ≡ rs ++ more → Room o k rs ws
-  writing-room more e = room-front o k ws rs more (rw e at (w .room))
+  writing-room more e = room-front more (rw e at (w .room))
 
   pub writing-more : {more : List Record} {ws′ : List ℕ} {k′ : ℕ} → Wrote o k rs ws ws′ k′ → left ≡ rs ++ more → Writing o k₀ all ws₀ k′ more ws′
-  writing-more {more} {ws′} {k′} wrote e =
+  writing-more {more} wrote e =
       let room : Room o k (rs ++ more) ws = rw e at (w .room) in
       record {
-        room = room-back o k ws rs more ws′ k′ room wrote;
-        goes-on = λ ws″ k″ rest. w .goes-on ws″ k″ (rw e (wrote-more o k ws rs more ws′ ws″ k′ k″ room wrote rest));
+        room = room-back room wrote;
+        goes-on = λ ws″ k″ rest. w .goes-on ws″ k″ (rw e (wrote-more room wrote rest));
       }
 
   pub writing-ends : {ws′ : List ℕ} {k′ : ℕ} → Wrote o k rs ws ws′ k′ → left ≡ rs → Wrote o k₀ all ws₀ ws′ k′

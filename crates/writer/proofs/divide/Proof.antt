@@ -6,7 +6,7 @@ use Rattle.writer.proofs.divide.Statement.{statement}
 use Rattle.writer.proofs.divide.Tie as tie
 
 returns : tie.Need-returns
-returns c = rw (eq-eqb _ _ (c .if1 .taken)) (wrote-none _ _ _)
+returns c = rw (eq-eqb _ _ (c .if1 .taken)) wrote-none
 
 put-requires : tie.Need-put-requires
 put-requires c κs = rw (ne-eqb _ _ (c .before .if1 .left)) at (c .before .before .before .pre)

@@ -57,7 +57,7 @@ same-length : tie.Need-same-length
 same-length c = search needs
 
 returns : tie.Need-returns
-returns c = wrote-one _ _ _ _ _ _ (c .before .before .pre) _ (ap (_*_ 4) (c .wide .ensures))
+returns c = wrote-one _ _ _ (c .before .before .pre) _ (ap (_*_ 4) (c .wide .ensures))
 
 pub put-spec : {M : Type 1} → statement M
 put-spec =

@@ -6,10 +6,10 @@ use Rattle.writer.proofs.subtract.Statement.{statement}
 use Rattle.writer.proofs.subtract.Tie as tie
 
 returns : tie.Need-returns
-returns c = rw (product-left-out _ _ _ (inl (c .if1 .taken))) (wrote-none _ _ _)
+returns c = rw (product-left-out _ _ _ (inl (c .if1 .taken))) wrote-none
 
 returns-2 : tie.Need-returns-2
-returns-2 c = rw (product-left-out _ _ _ (inr (c .if2 .taken))) (wrote-none _ _ _)
+returns-2 c = rw (product-left-out _ _ _ (inr (c .if2 .taken))) wrote-none
 
 put-requires : tie.Need-put-requires
 put-requires c κs = rw (product-kept _ _ _ (c .before .before .if1 .left) (c .before .if2 .left)) at (c .before .before .before .before .pre)

@@ -17,7 +17,7 @@ put-requires-2 : tie.Need-put-requires-2
 put-requires-2 c κs =
     let start = c .before .before .before .before .before .before .before .before .before .before .before in
     let put = c .before .before .before .before .before .before .before .put in
-    fourth-room (backward-parts _ _ _) (start .pre .1 .1) (put .ensures) (c .before .before .before .write-right .ensures) (wrote-none _ _ _)
+    fourth-room (backward-parts _ _ _) (start .pre .1 .1) (put .ensures) (c .before .before .before .write-right .ensures) wrote-none
 
 same-length : tie.Need-same-length
 same-length c = search needs
@@ -27,7 +27,7 @@ returns c =
     let start = c .before .before .before .before .before .before .before .before .before .before .before .before .before .before in
     let put = c .before .before .before .before .before .before .before .before .before .before .put in
     let write-right = c .before .before .before .before .before .before .write-right in
-    parts-written (backward-parts _ _ _) (start .pre .1 .1) (put .ensures) (write-right .ensures) (wrote-none _ _ _) (c .before .before .put2 .ensures)
+    parts-written (backward-parts _ _ _) (start .pre .1 .1) (put .ensures) (write-right .ensures) wrote-none (c .before .before .put2 .ensures)
 
 pub write-backward-spec : {M : Type 1} → statement M
 write-backward-spec =

@@ -76,7 +76,7 @@ write-line-requires-2 c κs =
     let wide2 = c .before .before .before .before .before .before .before .wide2 in
     let pivot-is = sym (number-here _ _ _ _ _ (ap suc (wide .ensures) ∙ start .pre .1 .1 .0 .here)) in
     let forward-written = lent-back _ _ _ _ (ap (_*_ 4) (wide2 .ensures)) _ _ (c .before .before .before .write-forward .ensures) in
-    let room = fourth-room (batch-parts _ _ _ _) (start .pre .1 .1 .1) (write-line .ensures .0) forward-written (wrote-none _ _ _) in
+    let room = fourth-room (batch-parts _ _ _ _) (start .pre .1 .1 .1) (write-line .ensures .0) forward-written wrote-none in
     (start .pre .0, (start .pre .1 .0, (pivot-is, (turned (start .pre .1 .0) _ (write-line .ensures .1), room))))
 
 same-length : tie.Need-same-length
@@ -91,7 +91,7 @@ returns c =
     let write-forward = c .before .before .before .before .before .before .write-forward in
     let write-line2 = c .before .before .write-line2 in
     let forward-written = lent-back _ _ _ _ (ap (_*_ 4) (wide2 .ensures)) _ _ (write-forward .ensures) in (
-      parts-written (batch-parts _ _ _ _) (start .pre .1 .1 .1) (write-line .ensures .0) forward-written (wrote-none _ _ _) (write-line2 .ensures .0),
+      parts-written (batch-parts _ _ _ _) (start .pre .1 .1 .1) (write-line .ensures .0) forward-written wrote-none (write-line2 .ensures .0),
       onward (start .pre .1 .0) (write-line2 .ensures .1),
     )
 

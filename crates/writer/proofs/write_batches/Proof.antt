@@ -20,13 +20,13 @@ abbrev μ-loop : tie.MeasureT-loop
 loop-holds : tie.Need-loop-holds Inv-loop μ-loop
 loop-holds c =
     let start = c .before .before .before .before .before in
-    (rising-starts _ _ _ _ _ _ (start .pre .1), record { here = sym (label-first _); passed = sym (passed-none _ _ (start .pre .0 .rises)) })
+    (rising-starts (start .pre .1), record { here = sym (label-first _); passed = sym (passed-none _ _ (start .pre .0 .rises)) })
 
 write-batch-requires : tie.Need-write-batch-requires Inv-loop μ-loop
 write-batch-requires c κs =
     let start = c .before .before .before .before .before .before .before .before in
     let loop = c .before .before .loop in
-    (start .pre .0, (omega arith, (loop .inv .1, rising-room _ _ _ _ _ _ _ _ _ (loop .inv .0) (omega arith))))
+    (start .pre .0, (omega arith, (loop .inv .1, rising-room (loop .inv .0) (omega arith))))
 
 add-m : tie.Need-add-m Inv-loop μ-loop
 add-m c = omega arith
@@ -38,13 +38,13 @@ loop-again : tie.Need-loop-again Inv-loop μ-loop
 loop-again c =
     let loop = c .before .before .before .before .before .loop in
     let write-batch = c .before .before .write-batch in
-    (rising-more _ _ _ _ _ _ _ _ _ (loop .inv .0) _ _ (omega arith) (write-batch .ensures .0), rw add-one (write-batch .ensures .1))
+    (rising-more (loop .inv .0) (omega arith) (write-batch .ensures .0), rw add-one (write-batch .ensures .1))
 
 returns : tie.Need-returns Inv-loop μ-loop
-returns c = rising-ends _ _ _ _ _ _ _ _ _ (c .before .loop .inv .0) (omega arith)
+returns c = rising-ends (c .before .loop .inv .0) (omega arith)
 
 same-length : tie.Need-same-length Inv-loop μ-loop
-same-length c = wrote-length _ _ _ _ _ _ (c .before .before .before .before .before .before .before .pre .1) (returns c)
+same-length c = wrote-length (c .before .before .before .before .before .before .before .pre .1) (returns c)
 
 pub write-batches-spec : {M : Type 1} → statement M
 write-batches-spec =

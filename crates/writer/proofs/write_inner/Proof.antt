@@ -43,7 +43,7 @@ loop-holds c =
     let smaller = c .before .before .before .before .before .smaller in
     let larger = c .before .before .before .before .larger in (
       smaller .ensures,
-      rw (larger .ensures) (rising-skips _ _ _ _ _ _ (start .pre .1 .1 .0) (start .pre .1 .1 .1)),
+      rw (larger .ensures) (rising-skips _ (start .pre .1 .1 .0) (start .pre .1 .1 .1)),
       (λ below. c .before .before .wide .ensures ∙ (c .before .before .before .label .ensures ∙ label-answered _ _ _ _ (start .pre .0) (omega arith))),
       λ below. c .wide2 .ensures ∙ (c .before .label2 .ensures ∙ label-answered _ _ _ _ (start .pre .0) (omega arith)),
     )
@@ -52,13 +52,13 @@ row : (c : tie.In-loop Inv-loop μ-loop)
     → let a = c .before .before .before .before .before .before .before .before .before .before .args in Stands (a .n) (now (a .work)) (a .i) (c .before .loop .h) (c .before .loop .across)
 row c =
     let start = c .before .before .before .before .before .before .before .before .before .before in
-    stands _ _ _ _ _ (start .pre .0) (omega arith) (c .before .loop .inv .2 (c .loop-test .taken))
+    stands (start .pre .0) (omega arith) (c .before .loop .inv .2 (c .loop-test .taken))
 
 column : (c : tie.In-loop Inv-loop μ-loop)
     → let a = c .before .before .before .before .before .before .before .before .before .before .args in Stands (a .n) (now (a .work)) (c .before .loop .h) (a .j) (c .before .loop .down)
 column c =
     let start = c .before .before .before .before .before .before .before .before .before .before in
-    stands _ _ _ _ _ (start .pre .0) (omega arith) (c .before .loop .inv .3 (c .loop-test .taken))
+    stands (start .pre .0) (omega arith) (c .before .loop .inv .3 (c .loop-test .taken))
 
 sub-subtract : tie.Need-sub-subtract Inv-loop μ-loop
 sub-subtract c = omega (arith, row (c .before))
@@ -82,7 +82,7 @@ subtract-requires : tie.Need-subtract-requires Inv-loop μ-loop
 subtract-requires c κs =
     let loop = c .before .before .before .before .loop in
     let turn = c .before .before .before in
-    rw (inner-at (row turn) (column turn)) at (rising-room _ _ _ _ _ _ _ _ _ (loop .inv .1) (omega arith))
+    rw (inner-at (row turn) (column turn)) at (rising-room (loop .inv .1) (omega arith))
 
 sub-wide : tie.Need-sub-wide Inv-loop μ-loop
 sub-wide c = omega arith
@@ -113,16 +113,16 @@ loop-again c =
     let loop = c .before .before .before .before .before .before .before .before .loop in
     let turn = c .before .before .before .before .before .before .before in (
       loop .inv .0,
-      rising-more _ _ _ _ _ _ _ _ _ (loop .inv .1) _ _ (omega arith) (rw (← inner-at (row turn) (column turn)) at (c .before .before .before .subtract .ensures)),
+      rising-more (loop .inv .1) (omega arith) (rw (← inner-at (row turn) (column turn)) at (c .before .before .before .subtract .ensures)),
       (λ below. label-across _ _ _ _ _ (row turn .is) (c .wide3 .ensures) (omega arith) (omega arith) (omega arith)),
       λ below. label-downward _ _ _ _ _ (column turn .is) (c .wide3 .ensures) (omega arith) (omega arith) (omega arith),
     )
 
 returns : tie.Need-returns Inv-loop μ-loop
-returns c = rising-ends _ _ _ _ _ _ _ _ _ (c .before .loop .inv .1) (omega arith)
+returns c = rising-ends (c .before .loop .inv .1) (omega arith)
 
 same-length : tie.Need-same-length Inv-loop μ-loop
-same-length c = wrote-length _ _ _ _ _ _ (c .before .before .before .before .before .before .before .before .before .before .pre .1 .1 .1) (returns c)
+same-length c = wrote-length (c .before .before .before .before .before .before .before .before .before .before .pre .1 .1 .1) (returns c)
 
 pub write-inner-spec : {M : Type 1} → statement M
 write-inner-spec =

@@ -30,13 +30,13 @@ wide-requires c κs = search needs
 loop-holds : tie.Need-loop-holds Inv-loop μ-loop
 loop-holds c =
     let start = c .before .before .before .before .before in (
-      rw (c .before .before .larger .ensures) (rising-skips _ _ _ _ _ _ (start .pre .1 .1 .0) (start .pre .1 .1 .1)),
+      rw (c .before .before .larger .ensures) (rising-skips _ (start .pre .1 .1 .0) (start .pre .1 .1 .1)),
       λ below. c .wide .ensures ∙ (c .before .label .ensures ∙ label-answered _ _ _ _ (start .pre .0) (omega arith)),
     )
 
 here : (c : tie.In-loop Inv-loop μ-loop)
     → let a = c .before .before .before .before .before .before .before .args in Stands (a .n) (now (a .work)) (a .m) (c .before .loop .h) (c .before .loop .across)
-here c = stands _ _ _ _ _ (c .before .before .before .before .before .before .before .pre .0) (omega arith) (c .before .loop .inv .1 (c .loop-test .taken))
+here c = stands (c .before .before .before .before .before .before .before .pre .0) (omega arith) (c .before .loop .inv .1 (c .loop-test .taken))
 
 sub-subtract : tie.Need-sub-subtract Inv-loop μ-loop
 sub-subtract c = omega (arith, here (c .before))
@@ -48,7 +48,7 @@ shared-slice-read-subtract : tie.Need-shared-slice-read-subtract Inv-loop μ-loo
 shared-slice-read-subtract c = omega (arith, here (c .before .before))
 
 subtract-requires : tie.Need-subtract-requires Inv-loop μ-loop
-subtract-requires c κs = rw (forward-at (here (c .before .before))) at (rising-room _ _ _ _ _ _ _ _ _ (c .before .before .before .loop .inv .0) (c .before .before .loop-test .taken))
+subtract-requires c κs = rw (forward-at (here (c .before .before))) at (rising-room (c .before .before .before .loop .inv .0) (c .before .before .loop-test .taken))
 
 sub-wide : tie.Need-sub-wide Inv-loop μ-loop
 sub-wide c = omega arith
@@ -73,15 +73,15 @@ loop-again c =
     let loop = c .before .before .before .before .before .before .before .loop in
     let loop-test = c .before .before .before .before .before .before .loop-test in
     let turn = c .before .before .before .before .before .before in (
-      rising-more _ _ _ _ _ _ _ _ _ (loop .inv .0) _ _ (loop-test .taken) (rw (← forward-at (here turn)) at (c .before .before .before .subtract .ensures)),
+      rising-more (loop .inv .0) (loop-test .taken) (rw (← forward-at (here turn)) at (c .before .before .before .subtract .ensures)),
       λ below. label-across _ _ _ _ _ (here turn .is) (c .wide2 .ensures) (omega arith) (omega arith) (omega arith),
     )
 
 returns : tie.Need-returns Inv-loop μ-loop
-returns c = rising-ends _ _ _ _ _ _ _ _ _ (c .before .loop .inv .0) (c .loop-test .left)
+returns c = rising-ends (c .before .loop .inv .0) (c .loop-test .left)
 
 same-length : tie.Need-same-length Inv-loop μ-loop
-same-length c = wrote-length _ _ _ _ _ _ (c .before .before .before .before .before .before .before .pre .1 .1 .1) (returns c)
+same-length c = wrote-length (c .before .before .before .before .before .before .before .pre .1 .1 .1) (returns c)
 
 pub write-left-spec : {M : Type 1} → statement M
 write-left-spec =

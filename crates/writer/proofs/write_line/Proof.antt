@@ -100,7 +100,7 @@ returns : tie.Need-returns Inv-loop μ-loop
 returns c = along-ends (c .before .loop .inv) (c .loop-test .left)
 
 same-length : tie.Need-same-length Inv-loop μ-loop
-same-length c = wrote-length _ _ _ _ _ _ (c .before .before .before .before .before .before .before .before .pre .1 .1 .1 .1) (returns c .0)
+same-length c = wrote-length (c .before .before .before .before .before .before .before .before .pre .1 .1 .1 .1) (returns c .0)
 
 pub write-line-spec : {M : Type 1} → statement M
 write-line-spec =

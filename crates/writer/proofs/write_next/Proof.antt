@@ -34,7 +34,7 @@ returns : tie.Need-returns
 returns c =
     let start = c .before .before .before .before .before .before .before .before in
     let wide = c .before .before .wide in (
-      rw (place-left-out (start .pre .0) _ _ (start .pre .1 .0) (wide .result) _ (ap suc (wide .ensures) ∙ start .pre .1 .1 .0 .here) (c .if1 .taken)) (wrote-none _ _ _),
+      rw (place-left-out (start .pre .0) _ _ (start .pre .1 .0) (wide .result) _ (ap suc (wide .ensures) ∙ start .pre .1 .1 .0 .here) (c .if1 .taken)) wrote-none,
       (add-one _, passed-left-out (start .pre .0) _ _ (start .pre .1 .0) _ (start .pre .1 .1 .0) (rw (wide .ensures) at (c .if1 .taken))),
     )
 

@@ -26,11 +26,11 @@ wide-requires c κs = search needs
 loop-holds : tie.Need-loop-holds Inv-loop μ-loop
 loop-holds c =
     let start = c .before .before .before .before in
-    (falling-starts _ _ _ _ _ _ (omega arith) (start .pre .1 .1), λ above. c .wide .ensures ∙ (c .before .label .ensures ∙ label-answered _ _ _ _ (start .pre .0) (omega arith)))
+    (falling-starts (omega arith) (start .pre .1 .1), λ above. c .wide .ensures ∙ (c .before .label .ensures ∙ label-answered _ _ _ _ (start .pre .0) (omega arith)))
 
 here : (c : tie.In-loop Inv-loop μ-loop)
     → let a = c .before .before .before .before .before .before .args in Stands (a .n) (now (a .work)) (a .i) (c .before .loop .h) (c .before .loop .across)
-here c = stands _ _ _ _ _ (c .before .before .before .before .before .before .pre .0) (omega arith) (c .before .loop .inv .1 (c .loop-test .taken))
+here c = stands (c .before .before .before .before .before .before .pre .0) (omega arith) (c .before .loop .inv .1 (c .loop-test .taken))
 
 sub-subtract : tie.Need-sub-subtract Inv-loop μ-loop
 sub-subtract c = omega (arith, here (c .before))
@@ -42,7 +42,7 @@ shared-slice-read-subtract : tie.Need-shared-slice-read-subtract Inv-loop μ-loo
 shared-slice-read-subtract c = omega (arith, here (c .before .before))
 
 subtract-requires : tie.Need-subtract-requires Inv-loop μ-loop
-subtract-requires c κs = rw (backward-at (here (c .before .before))) at (falling-room _ _ _ _ _ _ _ _ _ (c .before .before .before .loop .inv .0) (c .before .before .loop-test .taken))
+subtract-requires c κs = rw (backward-at (here (c .before .before))) at (falling-room (c .before .before .before .loop .inv .0) (c .before .before .loop-test .taken))
 
 sub-across : tie.Need-sub-across Inv-loop μ-loop
 sub-across c = omega (arith, here (c .before .before .before .before .before))
@@ -58,15 +58,15 @@ loop-again c =
     let loop = c .before .before .before .before .before .before .loop in
     let loop-test = c .before .before .before .before .before .loop-test in
     let turn = c .before .before .before .before .before in (
-      falling-more _ _ _ _ _ _ _ _ _ (loop .inv .0) _ _ (loop-test .taken) (rw (← backward-at (here turn)) at (c .before .before .subtract .ensures)),
+      falling-more (loop .inv .0) (loop-test .taken) (rw (← backward-at (here turn)) at (c .before .before .subtract .ensures)),
       label-left _ _ _ _ (here turn .is),
     )
 
 returns : tie.Need-returns Inv-loop μ-loop
-returns c = falling-ends _ _ _ _ _ _ _ _ _ (c .before .loop .inv .0) (c .loop-test .left)
+returns c = falling-ends (c .before .loop .inv .0) (c .loop-test .left)
 
 same-length : tie.Need-same-length Inv-loop μ-loop
-same-length c = wrote-length _ _ _ _ _ _ (c .before .before .before .before .before .before .pre .1 .1) (returns c)
+same-length c = wrote-length (c .before .before .before .before .before .before .pre .1 .1) (returns c)
 
 pub write-right-spec : {M : Type 1} → statement M
 write-right-spec =

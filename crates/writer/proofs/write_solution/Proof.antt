@@ -16,7 +16,7 @@ abbrev μ-loop : tie.MeasureT-loop
 μ-loop n work words₀ k next₀ i₀ words next i = i
 
 loop-holds : tie.Need-loop-holds Inv-loop μ-loop
-loop-holds c = falling-starts _ _ _ _ _ _ (omega arith) (c .before .before .pre .1)
+loop-holds c = falling-starts (omega arith) (c .before .before .pre .1)
 
 wide-requires : tie.Need-wide-requires Inv-loop μ-loop
 wide-requires c κs = search needs
@@ -41,7 +41,7 @@ unfolding xAt
 write-backward-requires c κs =
     let start = c .before .before .before .before .before .before in (
       start .pre .0,
-      (omega arith, lent-room _ _ _ _ (ap (_*_ 4) (c .before .wide .ensures)) (falling-room _ _ _ _ _ _ _ _ _ (c .before .before .before .loop .inv) (c .before .before .loop-test .taken))),
+      (omega arith, lent-room _ _ _ _ (ap (_*_ 4) (c .before .wide .ensures)) (falling-room (c .before .before .before .loop .inv) (c .before .before .loop-test .taken))),
     )
 
 sub-i : tie.Need-sub-i Inv-loop μ-loop
@@ -56,13 +56,13 @@ loop-again c =
     let loop = c .before .before .before .before .before .before .loop in
     let loop-test = c .before .before .before .before .before .loop-test in
     let wide = c .before .before .before .before .wide in
-    falling-more _ _ _ _ _ _ _ _ _ (loop .inv) _ _ (loop-test .taken) (lent-back _ _ _ _ (ap (_*_ 4) (wide .ensures)) _ _ (c .before .before .write-backward .ensures))
+    falling-more (loop .inv) (loop-test .taken) (lent-back _ _ _ _ (ap (_*_ 4) (wide .ensures)) _ _ (c .before .before .write-backward .ensures))
 
 returns : tie.Need-returns Inv-loop μ-loop
-returns c = falling-ends _ _ _ _ _ _ _ _ _ (c .before .loop .inv) (c .loop-test .left)
+returns c = falling-ends (c .before .loop .inv) (c .loop-test .left)
 
 same-length : tie.Need-same-length Inv-loop μ-loop
-same-length c = wrote-length _ _ _ _ _ _ (c .before .before .before .before .pre .1) (returns c)
+same-length c = wrote-length (c .before .before .before .before .pre .1) (returns c)
 
 pub write-solution-spec : {M : Type 1} → statement M
 write-solution-spec =
