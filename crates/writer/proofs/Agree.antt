@@ -49,7 +49,8 @@ all-kept : (f : ℕ → Formula) (t : ℕ → Bool) (r : ℕ → List Record) (a
     → recordsOfAll (map f (kept t (rising (λ k. k) a d))) ≡ joined (rising r a d)
 unfolding recordsOfAll kept rising joined
 all-kept f t r a zero same = refl
-all-kept f t r a (suc d) same = one (t a) _ ∙ ap₂ _++_ (same a (omega arith) (omega arith)) (all-kept f t r (suc a) d (λ k low high. same k (omega arith) (omega arith)))
+all-kept f t r a (suc d) same =
+    one (t a) _ ∙ ap₂ _++_ (same a (omega arith) (omega arith)) (all-kept f t r (suc a) d (λ k low high. same k (omega arith) (omega arith)))
   where
     one : (b : Bool) (ks : List ℕ) → recordsOfAll (map f (cond b (a ∷ ks) ks)) ≡ cond b (recordsOf (f a)) [] ++ recordsOfAll (map f ks)
     one true ks = refl
@@ -59,12 +60,16 @@ all-joined : (f : ℕ → List Formula) (r : ℕ → List Record) (a d : ℕ) �
     → recordsOfAll (joined (rising f a d)) ≡ joined (rising r a d)
 unfolding recordsOfAll rising joined
 all-joined f r a zero same = refl
-all-joined f r a (suc d) same = all-append (f a) (joined (rising f (suc a) d)) ∙ ap₂ _++_ (same a (omega arith) (omega arith)) (all-joined f r (suc a) d (λ k low high. same k (omega arith) (omega arith)))
+all-joined f r a (suc d) same =
+    all-append (f a) (joined (rising f (suc a) d))
+    ∙ ap₂ _++_ (same a (omega arith) (omega arith)) (all-joined f r (suc a) d (λ k low high. same k (omega arith) (omega arith)))
 
-all-falling : (f : ℕ → Formula) (r : ℕ → List Record) (a d : ℕ) → d ≤ a → ((k : ℕ) → 1 ≤ k → k ≤ a → recordsOf (f k) ≡ r k) → recordsOfAll (falling f a d) ≡ joined (falling r a d)
+all-falling : (f : ℕ → Formula) (r : ℕ → List Record) (a d : ℕ) → d ≤ a → ((k : ℕ) → 1 ≤ k → k ≤ a → recordsOf (f k) ≡ r k)
+    → recordsOfAll (falling f a d) ≡ joined (falling r a d)
 unfolding recordsOfAll falling joined
 all-falling f r a zero high same = refl
-all-falling f r a (suc d) high same = ap₂ _++_ (same a (omega arith) (omega arith)) (all-falling f r (a - 1) d (omega arith) (λ k low below. same k low (omega arith)))
+all-falling f r a (suc d) high same =
+    ap₂ _++_ (same a (omega arith) (omega arith)) (all-falling f r (a - 1) d (omega arith) (λ k low below. same k low (omega arith)))
 
 -- ---- formulas
 
@@ -96,16 +101,19 @@ module _ (n : ℕ) (L : Plan) (work : List ℕ) (same : (i j : ℕ) → Inside n
   lower-agree i m inside below =
       ap₂ (λ target products. inC target (position L (label n i m)) products 0 (eqb i m)) (same i m inside .0) (inner-agree i m m inside (omega arith))
 
-  upper-agree : (m j : ℕ) → Inside n m j → m < j → high-formula m j ≡ formulaAt n work (numberAt n work m j) (position L (label n m j)) (numberAt n work m m) m j
+  upper-agree : (m j : ℕ) → Inside n m j → m < j
+      → high-formula m j ≡ formulaAt n work (numberAt n work m j) (position L (label n m j)) (numberAt n work m m) m j
   unfolding upper formulaAt inC
   upper-agree m j inside above =
       rw (ne-eqb m j (omega arith), ← same m m (omega arith) .0)
-      (ap₂ (λ target products. inC target (position L (label n m j)) products (slot n L m m) false) (same m j inside .0) (inner-agree m j m inside (omega arith)))
+      (ap₂ (λ target products. inC target (position L (label n m j)) products (slot n L m m) false)
+      (same m j inside .0) (inner-agree m j m inside (omega arith)))
 
   forward-agree : (m : ℕ) → Inside n m m → recordsOf (forward n L (slot n L) (held n L) m) ≡ yAt n work m
   unfolding yAt forward pair
   forward-agree m inside =
-      rw (same m m inside .0) (ap (λ products. recordsOf (record { table = Y; target = m; start = m; products = products; divisor = numberAt n work m m; pivot = false }))
+      rw (same m m inside .0)
+      (ap (λ products. recordsOf (record { table = Y; target = m; start = m; products = products; divisor = numberAt n work m m; pivot = false }))
       (kept-agree _ _ _ _ _ (rising-each _ (λ h. h) 1 (m - 1) (λ h low below. let left = same m h (omega arith) in (ap (λ p. pair p h) (left .0), left .1)))))
 
   backward-agree : (i : ℕ) → Inside n i i → recordsOf (backward n L (slot n L) (held n L) i) ≡ xAt n work i
@@ -123,10 +131,14 @@ module _ (n : ℕ) (L : Plan) (work : List ℕ) (same : (i j : ℕ) → Inside n
       (ap₂ _++_ (forward-agree m inside) (all-kept (λ j. high-formula m j) (λ j. held n L m j) _ (suc m) (n - m) (λ j low high. at-row j low (omega arith)))))
     where
       at-column : (i : ℕ) → m ≤ i → i ≤ n → cond (held n L i m) (recordsOf (low-formula i m)) [] ≡ lineAt n L work false m i
-      at-column i low high = let inside : Inside n i m = omega arith in ap₂ (λ b rs. cond b rs []) (same i m inside .1) (ap recordsOf (lower-agree i m inside low))
+      at-column i low high =
+          let inside : Inside n i m = omega arith in
+          ap₂ (λ b rs. cond b rs []) (same i m inside .1) (ap recordsOf (lower-agree i m inside low))
 
       at-row : (j : ℕ) → m < j → j ≤ n → cond (held n L m j) (recordsOf (high-formula m j)) [] ≡ lineAt n L work true m j
-      at-row j low high = let inside : Inside n m j = omega arith in ap₂ (λ b rs. cond b rs []) (same m j inside .1) (ap recordsOf (upper-agree m j inside low))
+      at-row j low high =
+          let inside : Inside n m j = omega arith in
+          ap₂ (λ b rs. cond b rs []) (same m j inside .1) (ap recordsOf (upper-agree m j inside low))
 
   -- The headline: batch by batch, and then the solution, they are the compiled program's records.
   pub records-agree : compiledRecords n L ≡ batchRecords n L work ++ solutionRecords n work

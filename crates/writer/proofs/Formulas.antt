@@ -30,7 +30,8 @@ module _ (kind : ℕ) (pair : ℕ → ℕ × ℕ) (t : ℕ → Bool) (f : ℕ �
   kept-rising a zero same = refl
   kept-rising a (suc n) same = one (t a) a _ ∙ rw (same a (omega arith), kept-rising (suc a) n (λ h low. same h (omega arith)))
 
-  kept-falling : (a n : ℕ) → n ≤ a → ((h : ℕ) → 1 ≤ h → f h ≡ cond (t h) (recordAt h ∷ []) []) → recordsAt (kept t (falling (λ h. h) a n)) ≡ joined (falling f a n)
+  kept-falling : (a n : ℕ) → n ≤ a → ((h : ℕ) → 1 ≤ h → f h ≡ cond (t h) (recordAt h ∷ []) [])
+      → recordsAt (kept t (falling (λ h. h) a n)) ≡ joined (falling f a n)
   unfolding kept falling joined
   kept-falling a zero high same = refl
   kept-falling a (suc n) high same = one (t a) a _ ∙ rw (same a (omega arith), kept-falling (a - 1) n (omega arith) same)

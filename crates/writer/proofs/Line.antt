@@ -47,7 +47,8 @@ number-here n work i j q here = ap (λ k. getD work k 0) (omega arith)
 -- ---- below the notes nothing is kept
 
 module _ {n : ℕ} {L : Plan} {work inRows inColumns : List ℕ} (ready : Ready n L work inRows inColumns) where
-  pub inner-none : (i j a b from : ℕ) → Inside n i j → a ≡ i → b ≡ j → from ≡ max (getD inRows a 0) (getD inColumns b 0) → NoneBelow (innerAt n work i j) from (min i j)
+  pub inner-none : (i j a b from : ℕ) → Inside n i j → a ≡ i → b ≡ j → from ≡ max (getD inRows a 0) (getD inColumns b 0)
+      → NoneBelow (innerAt n work i j) from (min i j)
   unfolding innerAt
   inner-none i j a b from inside same-row same-column e h low below both =
       elim (decLe (suc h) (getD inRows i 0)) [
@@ -63,7 +64,7 @@ module _ {n : ℕ} {L : Plan} {work inRows inColumns : List ℕ} (ready : Ready 
 
   -- ---- at place (i, j)
 
-  module _ (i j : ℕ) (inside : Inside n i j) where
+  module _ {i j : ℕ} (inside : Inside n i j) where
     -- q is the index of its work number
     module _ (q divisor : ℕ) (here : suc q ≡ label n i j) where
       pub place-left-out : getD work q 0 ≡ 0 → placeAt n L work divisor i j ≡ []
@@ -75,7 +76,7 @@ module _ {n : ℕ} {L : Plan} {work inRows inColumns : List ℕ} (ready : Ready 
       unfolding placeAt keptAt
       place-kept p some e = rw (number-here n work i j q here, lt-ltb 0 (getD work q 0) (omega arith), e)
 
-    module _ (at : Cursor) (before : Before n L i j at) where
+    module _ {at : Cursor} (before : Before n L i j at) where
       pub place-bounds : (at .done < length work) × (at .done < 360000) × (at .passed ≤ 360000) × (i < length inRows) × (j < length inColumns)
       place-bounds =
           let covers = ready .covers in
@@ -132,7 +133,8 @@ module _ {n : ℕ} {L : Plan} {work : List ℕ} {across : Bool} {m : ℕ} where
 
   module _ {k₀ : ℕ} {words₀ : List ℕ} {at : Cursor} {t : ℕ} {words : List ℕ} (along : Along n L work across m k₀ words₀ at t words) where
     -- the t-th place is (i, j)
-    module _ (inside : Inside n m m) (below : t ≤ n) (i j divisor : ℕ) (row : i ≡ rowOf across m t) (column : j ≡ columnOf across m t) (e : divisor ≡ divisorOf n work across m) where
+    module _ (inside : Inside n m m) (below : t ≤ n) {i j divisor : ℕ} (row : i ≡ rowOf across m t) (column : j ≡ columnOf across m t)
+        (e : divisor ≡ divisorOf n work across m) where
       place-of-line : lineAt n L work across m t ≡ placeAt n L work divisor i j
       unfolding lineAt
       place-of-line = rw (row, column, e)
@@ -143,16 +145,17 @@ module _ {n : ℕ} {L : Plan} {work : List ℕ} {across : Bool} {m : ℕ} where
         (rw (row, column) (along .before), rw place-of-line at (rising-room (along .rising) (omega arith))),
       )
 
-      pub along-more : (after : Cursor) (words′ : List ℕ) → Wrote 0 (at .next) (placeAt n L work divisor i j) words words′ (after .next)
+      pub along-more : (after : Cursor) {words′ : List ℕ} → Wrote 0 (at .next) (placeAt n L work divisor i j) words words′ (after .next)
           → (after .done ≡ suc (at .done)) × (after .passed ≡ passedBy L (after .done)) → Along n L work across m k₀ words₀ after (t + 1) words′
-      along-more after words′ wrote moved =
+      along-more after wrote moved =
           record {
             rising = rising-more (along .rising) (omega arith) (rw place-of-line wrote);
             high = omega arith;
             before = record { here = rw (moved .0, add-one) (ap suc (along .before .here) ∙ sym (line-next n m t across (along .rising .low))); passed = moved .1 };
           }
 
-    pub along-ends : n < t → Wrote 0 k₀ (lineRecords n L work across m) words₀ words (at .next) × Before n L (rowOf across m (suc n)) (columnOf across m (suc n)) at
+    pub along-ends : n < t
+        → Wrote 0 k₀ (lineRecords n L work across m) words₀ words (at .next) × Before n L (rowOf across m (suc n)) (columnOf across m (suc n)) at
     along-ends past =
         let end : suc n ≡ t = omega (arith, along .high) in
         (rising-ends (along .rising) (omega arith), rw end (along .before))
@@ -160,12 +163,14 @@ module _ {n : ℕ} {L : Plan} {work : List ℕ} {across : Bool} {m : ℕ} where
 -- ---- places that aren't kept may be passed over
 
 -- one more is 0
-pub zeros-more : (work : List ℕ) (from most k at : ℕ) → Zeros work from most k → k < most → at ≡ k → getD work (from + at) 0 ≡ 0 → Zeros work from most (k + 1)
+pub zeros-more : (work : List ℕ) (from most k at : ℕ) → Zeros work from most k → k < most → at ≡ k → getD work (from + at) 0 ≡ 0
+    → Zeros work from most (k + 1)
 zeros-more work from most k at zeros below e none =
     (omega arith, λ j before. elim (decLe k j) [ yes n ↦ (let same : from + j ≡ from + at = omega arith in rw same none) | no n ↦ zeros .1 j (omega arith) ])
 
 -- labels grow by one along a line, so that its last place has a work number
-line-label : (n m t : ℕ) (across : Bool) (d : ℕ) → firstOf across m ≤ t → label n (rowOf across m (t + d)) (columnOf across m (t + d)) ≡ label n (rowOf across m t) (columnOf across m t) + d
+line-label : (n m t : ℕ) (across : Bool) (d : ℕ) → firstOf across m ≤ t
+    → label n (rowOf across m (t + d)) (columnOf across m (t + d)) ≡ label n (rowOf across m t) (columnOf across m t) + d
 line-label n m t across zero from = rw (add-zero t) (sym (add-zero _))
 line-label n m t across (suc d) from =
     let on : t + suc d ≡ suc (t + d) = omega arith in
@@ -178,7 +183,8 @@ line-long {n} {m = m} {t} across ready inside from below before =
     let last = rw end at (line-label n m t across (n - t) from) in
     let range = label-range n _ _ (line-inside n m n across (inside .row-low) (inside .row-high) (omega arith) (omega arith) .0) in
     let covers = ready .covers in
-    (omega (arith, last, range, before .here, covers .long), omega (arith, last, range, before .here, mul-le-mul {n₂ = 600} {m₂ = 600} (covers .high) (covers .high)))
+    let square = mul-le-mul {n₂ = 600} {m₂ = 600} (covers .high) (covers .high) in
+    (omega (arith, last, range, before .here, covers .long), omega (arith, last, range, before .here, square))
 
 module _ {n : ℕ} {L : Plan} {work inRows inColumns : List ℕ} {across : Bool} {m : ℕ} (ready : Ready n L work inRows inColumns) (inside : Inside n m m) where
   pub along-skips : {k₀ : ℕ} {words₀ words : List ℕ} {at : Cursor} {t : ℕ} → Along n L work across m k₀ words₀ at t words
@@ -187,21 +193,19 @@ module _ {n : ℕ} {L : Plan} {work inRows inColumns : List ℕ} {across : Bool}
   along-skips {at = at} {t} along zero far none = rw (add-zero t, add-zero (at .done)) along
   along-skips {at = at} {t} along (suc d) far none =
       let rest = along-skips along d (omega arith) (λ k below. none k (omega arith)) in
-      let divisor = divisorOf n work across m in
-      let i = rowOf across m (t + d) in
-      let j = columnOf across m (t + d) in
-      let here = along-place rest inside (omega arith) i j divisor refl refl refl in
+      let here = along-place rest inside (omega arith) refl refl refl in
       let empty = none d (omega arith) in
-      let nothing = place-left-out ready i j (here .0) (at .done + d) divisor (here .1 .0 .here) empty in
+      let nothing = place-left-out ready (here .0) (at .done + d) (divisorOf n work across m) (here .1 .0 .here) empty in
       let on : t + suc d ≡ t + d + 1 = omega arith in
       let after : Cursor = record { next = at .next; done = at .done + suc d; passed = at .passed } in
       let more : at .done + suc d ≡ at .done + d + 1 = omega arith in
-      rw on (along-more rest inside (omega arith) i j divisor refl refl refl after _ (rw nothing wrote-none)
-      (omega arith, rw more (passed-left-out ready i j (here .0) _ (here .1 .0) empty)))
+      rw on (along-more rest inside (omega arith) refl refl refl after (rw nothing wrote-none)
+      (omega arith, rw more (passed-left-out ready (here .0) (here .1 .0) empty)))
 
 -- ---- batch m: its column, y(m) and its row
 
-pub batch-parts : (n : ℕ) (L : Plan) (work : List ℕ) (m : ℕ) → Parts (batchAt n L work m) (lineRecords n L work false m) (yAt n work m) [] (lineRecords n L work true m)
+pub batch-parts : (n : ℕ) (L : Plan) (work : List ℕ) (m : ℕ)
+    → Parts (batchAt n L work m) (lineRecords n L work false m) (yAt n work m) [] (lineRecords n L work true m)
 unfolding batchAt
 batch-parts n L work m = record { are = refl }
 

@@ -18,7 +18,7 @@ mul-pivot c = search needs
 shared-slice-read-pivot : tie.Need-shared-slice-read-pivot
 shared-slice-read-pivot c =
     let start = c .before .before .before .before .before .before .before in
-    omega (arith, place-bounds (start .pre .0) _ _ (start .pre .1 .0) _ (start .pre .1 .1 .0))
+    omega (arith, place-bounds (start .pre .0) (start .pre .1 .0) (start .pre .1 .1 .0))
 
 write-line-requires : tie.Need-write-line-requires
 write-line-requires c κs =

@@ -46,7 +46,7 @@ write-next-requires : tie.Need-write-next-requires Inv-loop μ-loop
 write-next-requires c κs =
     let start = c .before .before .before .before .before .before .before .before .before .before .before in
     let loop = c .before .before .before .before .loop in
-    (start .pre .0, along-place (loop .inv) (start .pre .1 .0) (c .before .before .before .loop-test .taken) _ _ _ (c .before .row-of .ensures) (c .column-of .ensures) (start .pre .1 .1 .0))
+    (start .pre .0, along-place (loop .inv) (start .pre .1 .0) (c .before .before .before .loop-test .taken) (c .before .row-of .ensures) (c .column-of .ensures) (start .pre .1 .1 .0))
 
 -- the t-th place is written
 place-written : (c : tie.After-wide Inv-loop μ-loop) → let a = entry c .args in let w = wrote c .write-next in
@@ -55,7 +55,7 @@ place-written c =
     let p = entry c .pre in
     let w = wrote c .write-next .ensures in
     let at = wrote c .before in
-    along-more (head c .loop .inv) (p .1 .0) (below c) _ _ _ (at .before .row-of .ensures) (at .column-of .ensures) (p .1 .1 .0) _ _ (w .0) (w .1)
+    along-more (head c .loop .inv) (p .1 .0) (below c) (at .before .row-of .ensures) (at .column-of .ensures) (p .1 .1 .0) _ (w .0) (w .1)
 
 -- the line's last place has a work number, and so has this one
 room : (c : tie.After-wide Inv-loop μ-loop) → let a = entry c .args in let w = wrote c .write-next in

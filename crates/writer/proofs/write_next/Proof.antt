@@ -23,25 +23,25 @@ mul-slot c = search needs
 shared-slice-read-slot : tie.Need-shared-slice-read-slot
 shared-slice-read-slot c =
     let start = c .before .before .before .before .before .before .before in
-    omega (arith, place-bounds (start .pre .0) _ _ (start .pre .1 .0) _ (start .pre .1 .1 .0))
+    omega (arith, place-bounds (start .pre .0) (start .pre .1 .0) (start .pre .1 .1 .0))
 
 add-label : tie.Need-add-label
 add-label c =
     let start = c .before .before .before .before .before .before .before in
-    omega (arith, place-bounds (start .pre .0) _ _ (start .pre .1 .0) _ (start .pre .1 .1 .0))
+    omega (arith, place-bounds (start .pre .0) (start .pre .1 .0) (start .pre .1 .1 .0))
 
 returns : tie.Need-returns
 returns c =
     let start = c .before .before .before .before .before .before .before .before in
     let wide = c .before .before .wide in (
-      rw (place-left-out (start .pre .0) _ _ (start .pre .1 .0) (wide .result) _ (ap suc (wide .ensures) ∙ start .pre .1 .1 .0 .here) (c .if1 .taken)) wrote-none,
-      (add-one _, passed-left-out (start .pre .0) _ _ (start .pre .1 .0) _ (start .pre .1 .1 .0) (rw (wide .ensures) at (c .if1 .taken))),
+      rw (place-left-out (start .pre .0) (start .pre .1 .0) (wide .result) _ (ap suc (wide .ensures) ∙ start .pre .1 .1 .0 .here) (c .if1 .taken)) wrote-none,
+      (add-one _, passed-left-out (start .pre .0) (start .pre .1 .0) (start .pre .1 .1 .0) (rw (wide .ensures) at (c .if1 .taken))),
     )
 
 position-requires : tie.Need-position-requires
 position-requires c κs =
     let start = c .before .before .before .before .before .before .before .before in
-    omega (arith, place-bounds (start .pre .0) _ _ (start .pre .1 .0) _ (start .pre .1 .1 .0))
+    omega (arith, place-bounds (start .pre .0) (start .pre .1 .0) (start .pre .1 .1 .0))
 
 wide-requires-2 : tie.Need-wide-requires-2
 wide-requires-2 c κs = search needs
@@ -89,8 +89,8 @@ kept : (c : tie.After-position)
 kept c =
     let start = c .before .before .before .before .before .before .before .before .before in
     let wide = c .before .before .before .wide in
-    place-kept (start .pre .0) _ _ (start .pre .1 .0) (wide .result) _ (ap suc (wide .ensures) ∙ start .pre .1 .1 .0 .here) (c .position .result) (c .before .if1 .left)
-    (position-found (start .pre .0) _ _ (start .pre .1 .0) _ (start .pre .1 .1 .0) _ (c .position .ensures))
+    place-kept (start .pre .0) (start .pre .1 .0) (wide .result) _ (ap suc (wide .ensures) ∙ start .pre .1 .1 .0 .here) (c .position .result) (c .before .if1 .left)
+    (position-found (start .pre .0) (start .pre .1 .0) (start .pre .1 .1 .0) _ (c .position .ensures))
 
 write-place-requires : tie.Need-write-place-requires
 write-place-requires c κs =
@@ -114,7 +114,7 @@ returns-2 c =
     let found = c .before .before .before .before .before .before .before .before .before .before .before in
     let wide4 = c .before .before .before .before .before .wide4 in (
       rw (kept found) (lent-back _ _ _ _ (ap (_*_ 4) (wide4 .ensures)) _ _ (c .before .before .before .write-place .ensures)),
-      (add-one _, c .larger2 .ensures ∙ passed-kept (start .pre .0) _ _ (start .pre .1 .0) _ (start .pre .1 .1 .0) _ (position .ensures)),
+      (add-one _, c .larger2 .ensures ∙ passed-kept (start .pre .0) (start .pre .1 .0) (start .pre .1 .1 .0) _ (position .ensures)),
     )
 
 pub write-next-spec : {M : Type 1} → statement M
