@@ -145,23 +145,23 @@ module _ {o k : ℕ} {all first second third fourth : List Record} {ws : List �
 
 -- ---- the rest of the words, lent from record k on
 
-module _ (k : ℕ) (rs : List Record) (ws : List ℕ) (a : ℕ) (at : a ≡ 4 * k) where
-  lent-whole : take (length ws - a) (drop a ws) ≡ drop a ws
-  lent-whole = take-all (length ws - a) (drop a ws) (omega (arith, length-drop a ws))
+lent-whole : (ws : List ℕ) (a : ℕ) → take (length ws - a) (drop a ws) ≡ drop a ws
+lent-whole ws a = take-all (length ws - a) (drop a ws) (omega (arith, length-drop a ws))
 
+module _ {k : ℕ} {rs : List Record} {ws : List ℕ} {a : ℕ} (at : a ≡ 4 * k) where
   pub lent-room : Room 0 k rs ws → Room k k rs (take (length ws - a) (drop a ws))
-  lent-room room = rw lent-whole (omega (arith, length-drop a ws))
+  lent-room room = rw (lent-whole ws a) (omega (arith, length-drop a ws))
 
-  pub lent-back : (part : List ℕ) (k′ : ℕ) → Wrote k k rs (take (length ws - a) (drop a ws)) part k′
+  pub lent-back : {part : List ℕ} {k′ : ℕ} → Wrote k k rs (take (length ws - a) (drop a ws)) part k′
       → Wrote 0 k rs ws (take a ws ++ (part ++ drop (length ws - a) (drop a ws))) k′
   unfolding pasted
-  lent-back part k′ wrote =
+  lent-back wrote =
       let nothing : drop (length ws - a) (drop a ws) ≡ [] = drop-of-length-le (drop a ws) {i = length ws - a} (omega (arith, length-drop a ws)) in
       let here : 4 * (k - k) ≡ 0 = omega arith in
       let there : 4 * (k - 0) ≡ a = omega arith in
       let none : 0 + length (linked k rs) ≡ length (linked k rs) = omega arith in
       record {
-        words = rw (nothing, append-nil, there, wrote .words, lent-whole, here, none) (rw drop-drop);
+        words = rw (nothing, append-nil, there, wrote .words, lent-whole ws a, here, none) (rw drop-drop);
         next-is = wrote .next-is;
       }
 

@@ -65,7 +65,7 @@ write-forward-requires c κs =
     let pivot-is = sym (number-here _ _ _ _ _ (ap suc (wide .ensures) ∙ start .pre .1 .1 .0 .here)) in
     let none = forward-none (start .pre .0) _ _ _ (start .pre .1 .0) (c .before .wide3 .ensures) refl in
     let room = second-room (batch-parts _ _ _ _) (start .pre .1 .1 .1) (write-line .ensures .0) in
-    (start .pre .0 .covers, (start .pre .1 .0, (pivot-is, (none, lent-room _ _ _ _ (ap (_*_ 4) (c .before .before .before .wide2 .ensures)) room))))
+    (start .pre .0 .covers, (start .pre .1 .0, (pivot-is, (none, lent-room (ap (_*_ 4) (c .before .before .before .wide2 .ensures)) room))))
 
 write-line-requires-2 : tie.Need-write-line-requires-2
 unfolding yAt
@@ -75,7 +75,7 @@ write-line-requires-2 c κs =
     let write-line = c .before .before .before .before .before .before .before .before .before .before .write-line in
     let wide2 = c .before .before .before .before .before .before .before .wide2 in
     let pivot-is = sym (number-here _ _ _ _ _ (ap suc (wide .ensures) ∙ start .pre .1 .1 .0 .here)) in
-    let forward-written = lent-back _ _ _ _ (ap (_*_ 4) (wide2 .ensures)) _ _ (c .before .before .before .write-forward .ensures) in
+    let forward-written = lent-back (ap (_*_ 4) (wide2 .ensures)) (c .before .before .before .write-forward .ensures) in
     let room = fourth-room (batch-parts _ _ _ _) (start .pre .1 .1 .1) (write-line .ensures .0) forward-written wrote-none in
     (start .pre .0, (start .pre .1 .0, (pivot-is, (turned (start .pre .1 .0) _ (write-line .ensures .1), room))))
 
@@ -90,7 +90,7 @@ returns c =
     let wide2 = c .before .before .before .before .before .before .before .before .before .before .wide2 in
     let write-forward = c .before .before .before .before .before .before .write-forward in
     let write-line2 = c .before .before .write-line2 in
-    let forward-written = lent-back _ _ _ _ (ap (_*_ 4) (wide2 .ensures)) _ _ (write-forward .ensures) in (
+    let forward-written = lent-back (ap (_*_ 4) (wide2 .ensures)) (write-forward .ensures) in (
       parts-written (batch-parts _ _ _ _) (start .pre .1 .1 .1) (write-line .ensures .0) forward-written wrote-none (write-line2 .ensures .0),
       onward (start .pre .1 .0) (write-line2 .ensures .1),
     )

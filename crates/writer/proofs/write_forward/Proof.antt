@@ -5,37 +5,54 @@ use Rattle.writer.proofs.Formulas.{forward-parts}
 use Rattle.writer.proofs.write_forward.Statement.{statement}
 use Rattle.writer.proofs.write_forward.Tie as tie
 
+-- Places of the code: where y(m) is divided, reduced and opened, each seen from the next, and the entry.
+abbrev entry : tie.After-put → tie.Start
+entry c = c .before .before .before .before
+
+abbrev opened : tie.After-write-left → tie.After-put
+opened c = c .before .before .before .before
+
+abbrev reduced : tie.After-divide → tie.After-write-left
+reduced c = c .before .before .before .before
+
+abbrev divided : tie.After-put2 → tie.After-divide
+divided c = c .before .before .before .before
+
 put-requires : tie.Need-put-requires
 put-requires c κs = first-room (forward-parts _ _ _ _ (c .before .before .before .pre .1 .1 .0)) (c .before .before .before .pre .1 .1 .1 .1)
 
 write-left-requires : tie.Need-write-left-requires
 write-left-requires c κs =
-    let start = c .before .before .before .before .before .before .before in
-    (start .pre .0, (start .pre .1 .0, (start .pre .1 .1 .1 .0, second-room (forward-parts _ _ _ _ (start .pre .1 .1 .0)) (start .pre .1 .1 .1 .1) (c .before .before .before .put .ensures))))
+    let o = c .before .before .before in
+    let p = entry o .pre in
+    (p .0, (p .1 .0, (p .1 .1 .1 .0, second-room (forward-parts _ _ _ _ (p .1 .1 .0)) (p .1 .1 .1 .1) (o .put .ensures))))
 
 divide-requires : tie.Need-divide-requires
 divide-requires c κs =
-    let start = c .before .before .before .before .before .before .before .before .before .before .before in
-    let put = c .before .before .before .before .before .before .before .put in
-    third-room (forward-parts _ _ _ _ (start .pre .1 .1 .0)) (start .pre .1 .1 .1 .1) (put .ensures) (c .before .before .before .write-left .ensures)
+    let r = c .before .before .before in
+    let o = opened r in
+    let p = entry o .pre in
+    third-room (forward-parts _ _ _ _ (p .1 .1 .0)) (p .1 .1 .1 .1) (o .put .ensures) (r .write-left .ensures)
 
 put-requires-2 : tie.Need-put-requires-2
 put-requires-2 c κs =
-    let start = c .before .before .before .before .before .before .before .before .before .before .before .before .before .before .before in
-    let put = c .before .before .before .before .before .before .before .before .before .before .before .put in
-    let write-left = c .before .before .before .before .before .before .before .write-left in
-    fourth-room (forward-parts _ _ _ _ (start .pre .1 .1 .0)) (start .pre .1 .1 .1 .1) (put .ensures) (write-left .ensures) (c .before .before .before .divide .ensures)
+    let d = c .before .before .before in
+    let r = reduced d in
+    let o = opened r in
+    let p = entry o .pre in
+    fourth-room (forward-parts _ _ _ _ (p .1 .1 .0)) (p .1 .1 .1 .1) (o .put .ensures) (r .write-left .ensures) (d .divide .ensures)
 
 same-length : tie.Need-same-length
 same-length c = search needs
 
 returns : tie.Need-returns
 returns c =
-    let start = c .before .before .before .before .before .before .before .before .before .before .before .before .before .before .before .before .before .before in
-    let put = c .before .before .before .before .before .before .before .before .before .before .before .before .before .before .put in
-    let write-left = c .before .before .before .before .before .before .before .before .before .before .write-left in
-    let divide = c .before .before .before .before .before .before .divide in
-    parts-written (forward-parts _ _ _ _ (start .pre .1 .1 .0)) (start .pre .1 .1 .1 .1) (put .ensures) (write-left .ensures) (divide .ensures) (c .before .before .put2 .ensures)
+    let closed = c .before .before in
+    let d = divided closed in
+    let r = reduced d in
+    let o = opened r in
+    let p = entry o .pre in
+    parts-written (forward-parts _ _ _ _ (p .1 .1 .0)) (p .1 .1 .1 .1) (o .put .ensures) (r .write-left .ensures) (d .divide .ensures) (closed .put2 .ensures)
 
 pub write-forward-spec : {M : Type 1} → statement M
 write-forward-spec =

@@ -99,7 +99,7 @@ write-place-requires c κs =
     let found = c .before .before .before .before .before .before .before in
     let wide3 = c .before .before .before .before .wide3 in
     let none = inner-none (start .pre .0) _ _ _ _ _ (start .pre .1 .0) (wide2 .ensures) (wide3 .ensures) (c .before .before .larger .ensures) in
-    (start .pre .0 .covers, (start .pre .1 .0, (none, lent-room _ _ _ _ (ap (_*_ 4) (c .before .wide4 .ensures)) (rw (kept found) at (start .pre .1 .1 .1)))))
+    (start .pre .0 .covers, (start .pre .1 .0, (none, lent-room (ap (_*_ 4) (c .before .wide4 .ensures)) (rw (kept found) at (start .pre .1 .1 .1)))))
 
 larger-requires-2 : tie.Need-larger-requires-2
 larger-requires-2 c κs = search needs
@@ -113,7 +113,7 @@ returns-2 c =
     let position = c .before .before .before .before .before .before .before .before .before .before .before .position in
     let found = c .before .before .before .before .before .before .before .before .before .before .before in
     let wide4 = c .before .before .before .before .before .wide4 in (
-      rw (kept found) (lent-back _ _ _ _ (ap (_*_ 4) (wide4 .ensures)) _ _ (c .before .before .before .write-place .ensures)),
+      rw (kept found) (lent-back (ap (_*_ 4) (wide4 .ensures)) (c .before .before .before .write-place .ensures)),
       (add-one _, c .larger2 .ensures ∙ passed-kept (start .pre .0) (start .pre .1 .0) (start .pre .1 .1 .0) _ (position .ensures)),
     )
 

@@ -41,7 +41,7 @@ unfolding xAt
 write-backward-requires c κs =
     let start = c .before .before .before .before .before .before in (
       start .pre .0,
-      (omega arith, lent-room _ _ _ _ (ap (_*_ 4) (c .before .wide .ensures)) (falling-room (c .before .before .before .loop .inv) (c .before .before .loop-test .taken))),
+      (omega arith, lent-room (ap (_*_ 4) (c .before .wide .ensures)) (falling-room (c .before .before .before .loop .inv) (c .before .before .loop-test .taken))),
     )
 
 sub-i : tie.Need-sub-i Inv-loop μ-loop
@@ -56,7 +56,7 @@ loop-again c =
     let loop = c .before .before .before .before .before .before .loop in
     let loop-test = c .before .before .before .before .before .loop-test in
     let wide = c .before .before .before .before .wide in
-    falling-more (loop .inv) (loop-test .taken) (lent-back _ _ _ _ (ap (_*_ 4) (wide .ensures)) _ _ (c .before .before .write-backward .ensures))
+    falling-more (loop .inv) (loop-test .taken) (lent-back (ap (_*_ 4) (wide .ensures)) (c .before .before .write-backward .ensures))
 
 returns : tie.Need-returns Inv-loop μ-loop
 returns c = falling-ends (c .before .loop .inv) (c .loop-test .left)
