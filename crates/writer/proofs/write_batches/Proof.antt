@@ -17,6 +17,10 @@ Inv-loop n plan work rows columns words₀ at₀ m₀ words at m = Rising (batch
 abbrev μ-loop : tie.MeasureT-loop
 μ-loop n plan work rows columns words₀ at₀ m₀ words at m = suc n - m
 
+-- Places of the code: the entry, seen from the loop's head.
+abbrev entry : tie.At-loop Inv-loop μ-loop → tie.Start Inv-loop μ-loop
+entry c = c .before .before .before .before .before .before
+
 loop-holds : tie.Need-loop-holds Inv-loop μ-loop
 loop-holds c =
     let start = c .before .before .before .before .before in
@@ -24,8 +28,9 @@ loop-holds c =
 
 write-batch-requires : tie.Need-write-batch-requires Inv-loop μ-loop
 write-batch-requires c κs =
-    let start = c .before .before .before .before .before .before .before .before in
-    let loop = c .before .before .loop in
+    let head = c .before .before in
+    let start = entry head in
+    let loop = head .loop in
     (start .pre .0, (omega arith, (loop .inv .1, rising-room (loop .inv .0) (omega arith))))
 
 add-m : tie.Need-add-m Inv-loop μ-loop
@@ -44,7 +49,7 @@ returns : tie.Need-returns Inv-loop μ-loop
 returns c = rising-ends (c .before .loop .inv .0) (omega arith)
 
 same-length : tie.Need-same-length Inv-loop μ-loop
-same-length c = wrote-length (c .before .before .before .before .before .before .before .pre .1) (returns c)
+same-length c = wrote-length (entry (c .before) .pre .1) (returns c)
 
 pub write-batches-spec : {M : Type 1} → statement M
 write-batches-spec =

@@ -7,7 +7,8 @@ use borrow.Author.Needs.{needs}
 use denote.Ref.{now}
 use Rattle.model.specs.Label.{label}
 use Rattle.writer.specs.Worked.{innerAt}
-use Rattle.writer.proofs.Products.{label-answered, Stands, stands, inner-at, label-across, label-downward, Rising, rising-skips, rising-room, rising-more, rising-ends}
+use Rattle.writer.proofs.Products.{label-answered, Stands, stands, inner-at, label-across, label-downward}
+use Rattle.writer.proofs.Products.{Rising, rising-skips, rising-room, rising-more, rising-ends}
 use Rattle.writer.proofs.Written.{wrote-length}
 use Rattle.writer.proofs.write_inner.Statement.{statement}
 use Rattle.writer.proofs.write_inner.Tie as tie
@@ -18,6 +19,16 @@ Inv-loop n work rest₀ first k i j from end next₀ h₀ across₀ down₀ rest
 
 abbrev μ-loop : tie.MeasureT-loop
 μ-loop n work rest₀ first k i j from end next₀ h₀ across₀ down₀ rest next h across down = end - h
+
+-- Places of the code: a turn, the loop's head before it and its end after it; and the entry.
+abbrev Turn : Type 0
+Turn = tie.In-loop Inv-loop μ-loop
+
+abbrev entry : tie.At-loop Inv-loop μ-loop → tie.Start Inv-loop μ-loop
+entry c = c .before .before .before .before .before .before .before .before .before
+
+abbrev turn : tie.After-wide3 Inv-loop μ-loop → Turn
+turn c = c .before .before .before .before .before .before .before
 
 smaller-requires : tie.Need-smaller-requires Inv-loop μ-loop
 smaller-requires c κs = search needs
@@ -39,25 +50,22 @@ wide-requires-2 c κs = search needs
 
 loop-holds : tie.Need-loop-holds Inv-loop μ-loop
 loop-holds c =
-    let start = c .before .before .before .before .before .before .before .before in
-    let smaller = c .before .before .before .before .before .smaller in
-    let larger = c .before .before .before .before .larger in (
-      smaller .ensures,
-      rw (larger .ensures) (rising-skips _ (start .pre .1 .1 .0) (start .pre .1 .1 .1)),
-      (λ below. c .before .before .wide .ensures ∙ (c .before .before .before .label .ensures ∙ label-answered _ _ _ _ (start .pre .0) (omega arith))),
-      λ below. c .wide2 .ensures ∙ (c .before .label2 .ensures ∙ label-answered _ _ _ _ (start .pre .0) (omega arith)),
+    let first = c .before .before .before .before in
+    let p = first .before .before .before .before .pre in (
+      first .before .smaller .ensures,
+      rw (first .larger .ensures) (rising-skips _ (p .1 .1 .0) (p .1 .1 .1)),
+      (λ below. c .before .before .wide .ensures ∙ (c .before .before .before .label .ensures ∙ label-answered _ _ _ _ (p .0) (omega arith))),
+      λ below. c .wide2 .ensures ∙ (c .before .label2 .ensures ∙ label-answered _ _ _ _ (p .0) (omega arith)),
     )
 
-row : (c : tie.In-loop Inv-loop μ-loop)
-    → let a = c .before .before .before .before .before .before .before .before .before .before .args in Stands (a .n) (now (a .work)) (a .i) (c .before .loop .h) (c .before .loop .across)
+row : (c : Turn) → let a = entry (c .before) .args in let l = c .before .loop in Stands (a .n) (now (a .work)) (a .i) (l .h) (l .across)
 row c =
-    let start = c .before .before .before .before .before .before .before .before .before .before in
+    let start = entry (c .before) in
     stands (start .pre .0) (omega arith) (c .before .loop .inv .2 (c .loop-test .taken))
 
-column : (c : tie.In-loop Inv-loop μ-loop)
-    → let a = c .before .before .before .before .before .before .before .before .before .before .args in Stands (a .n) (now (a .work)) (c .before .loop .h) (a .j) (c .before .loop .down)
+column : (c : Turn) → let a = entry (c .before) .args in let l = c .before .loop in Stands (a .n) (now (a .work)) (l .h) (a .j) (l .down)
 column c =
-    let start = c .before .before .before .before .before .before .before .before .before .before in
+    let start = entry (c .before) in
     stands (start .pre .0) (omega arith) (c .before .loop .inv .3 (c .loop-test .taken))
 
 sub-subtract : tie.Need-sub-subtract Inv-loop μ-loop
@@ -80,9 +88,8 @@ shared-slice-read-subtract-2 c = omega (arith, column (c .before .before .before
 
 subtract-requires : tie.Need-subtract-requires Inv-loop μ-loop
 subtract-requires c κs =
-    let loop = c .before .before .before .before .loop in
-    let turn = c .before .before .before in
-    rw (inner-at (row turn) (column turn)) at (rising-room (loop .inv .1) (omega arith))
+    let t = c .before .before .before in
+    rw (inner-at (row t) (column t)) at (rising-room (t .before .loop .inv .1) (omega arith))
 
 sub-wide : tie.Need-sub-wide Inv-loop μ-loop
 sub-wide c = omega arith
@@ -94,13 +101,13 @@ mul-step : tie.Need-mul-step Inv-loop μ-loop
 mul-step c = omega arith
 
 add-across : tie.Need-add-across Inv-loop μ-loop
-add-across c = omega (arith, row (c .before .before .before .before .before .before .before))
+add-across c = omega (arith, row (turn c))
 
 sub-down : tie.Need-sub-down Inv-loop μ-loop
 sub-down c = omega arith
 
 add-down : tie.Need-add-down Inv-loop μ-loop
-add-down c = omega (arith, column (c .before .before .before .before .before .before .before))
+add-down c = omega (arith, column (turn c))
 
 add-h : tie.Need-add-h Inv-loop μ-loop
 add-h c = omega arith
@@ -110,19 +117,19 @@ loop-less c = omega arith
 
 loop-again : tie.Need-loop-again Inv-loop μ-loop
 loop-again c =
-    let loop = c .before .before .before .before .before .before .before .before .loop in
-    let turn = c .before .before .before .before .before .before .before in (
+    let t = turn c in
+    let loop = t .before .loop in (
       loop .inv .0,
-      rising-more (loop .inv .1) (omega arith) (rw (← inner-at (row turn) (column turn)) at (c .before .before .before .subtract .ensures)),
-      (λ below. label-across _ _ _ _ _ (row turn .is) (c .wide3 .ensures) (omega arith) (omega arith) (omega arith)),
-      λ below. label-downward _ _ _ _ _ (column turn .is) (c .wide3 .ensures) (omega arith) (omega arith) (omega arith),
+      rising-more (loop .inv .1) (omega arith) (rw (← inner-at (row t) (column t)) at (c .before .before .before .subtract .ensures)),
+      (λ below. label-across _ _ _ _ _ (row t .is) (c .wide3 .ensures) (omega arith) (omega arith) (omega arith)),
+      λ below. label-downward _ _ _ _ _ (column t .is) (c .wide3 .ensures) (omega arith) (omega arith) (omega arith),
     )
 
 returns : tie.Need-returns Inv-loop μ-loop
 returns c = rising-ends (c .before .loop .inv .1) (omega arith)
 
 same-length : tie.Need-same-length Inv-loop μ-loop
-same-length c = wrote-length (c .before .before .before .before .before .before .before .before .before .before .pre .1 .1 .1) (returns c)
+same-length c = wrote-length (entry (c .before) .pre .1 .1 .1) (returns c)
 
 pub write-inner-spec : {M : Type 1} → statement M
 write-inner-spec =

@@ -7,16 +7,28 @@ use borrow.Author.Needs.{needs}
 use denote.Ref.{now}
 use Rattle.model.specs.Label.{label}
 use Rattle.writer.specs.Worked.{forwardAt}
-use Rattle.writer.proofs.Products.{label-answered, Stands, stands, forward-at, label-across, Rising, rising-skips, rising-room, rising-more, rising-ends}
+use Rattle.writer.proofs.Products.{label-answered, Stands, stands, forward-at, label-across}
+use Rattle.writer.proofs.Products.{Rising, rising-skips, rising-room, rising-more, rising-ends}
 use Rattle.writer.proofs.Written.{wrote-length}
 use Rattle.writer.proofs.write_left.Statement.{statement}
 use Rattle.writer.proofs.write_left.Tie as tie
 
 abbrev Inv-loop : tie.InvT-loop
-Inv-loop n work rest₀ first k m from next₀ h₀ across₀ rest next h across = Rising (forwardAt n work m) 1 first k m rest₀ next h rest × (h < m → across ≡ label n m h)
+Inv-loop n work rest₀ first k m from next₀ h₀ across₀ rest next h across =
+    Rising (forwardAt n work m) 1 first k m rest₀ next h rest × (h < m → across ≡ label n m h)
 
 abbrev μ-loop : tie.MeasureT-loop
 μ-loop n work rest₀ first k m from next₀ h₀ across₀ rest next h across = m - h
+
+-- Places of the code: a turn, the loop's head before it and its end after it; and the entry.
+abbrev Turn : Type 0
+Turn = tie.In-loop Inv-loop μ-loop
+
+abbrev entry : tie.At-loop Inv-loop μ-loop → tie.Start Inv-loop μ-loop
+entry c = c .before .before .before .before .before .before
+
+abbrev turn : tie.After-wide2 Inv-loop μ-loop → Turn
+turn c = c .before .before .before .before .before .before
 
 larger-requires : tie.Need-larger-requires Inv-loop μ-loop
 larger-requires c κs = search needs
@@ -34,9 +46,8 @@ loop-holds c =
       λ below. c .wide .ensures ∙ (c .before .label .ensures ∙ label-answered _ _ _ _ (start .pre .0) (omega arith)),
     )
 
-here : (c : tie.In-loop Inv-loop μ-loop)
-    → let a = c .before .before .before .before .before .before .before .args in Stands (a .n) (now (a .work)) (a .m) (c .before .loop .h) (c .before .loop .across)
-here c = stands (c .before .before .before .before .before .before .before .pre .0) (omega arith) (c .before .loop .inv .1 (c .loop-test .taken))
+here : (c : Turn) → let a = entry (c .before) .args in let l = c .before .loop in Stands (a .n) (now (a .work)) (a .m) (l .h) (l .across)
+here c = stands (entry (c .before) .pre .0) (omega arith) (c .before .loop .inv .1 (c .loop-test .taken))
 
 sub-subtract : tie.Need-sub-subtract Inv-loop μ-loop
 sub-subtract c = omega (arith, here (c .before))
@@ -48,7 +59,9 @@ shared-slice-read-subtract : tie.Need-shared-slice-read-subtract Inv-loop μ-loo
 shared-slice-read-subtract c = omega (arith, here (c .before .before))
 
 subtract-requires : tie.Need-subtract-requires Inv-loop μ-loop
-subtract-requires c κs = rw (forward-at (here (c .before .before))) at (rising-room (c .before .before .before .loop .inv .0) (c .before .before .loop-test .taken))
+subtract-requires c κs =
+    let t = c .before .before in
+    rw (forward-at (here t)) at (rising-room (t .before .loop .inv .0) (t .loop-test .taken))
 
 sub-wide : tie.Need-sub-wide Inv-loop μ-loop
 sub-wide c = omega arith
@@ -60,7 +73,7 @@ mul-across : tie.Need-mul-across Inv-loop μ-loop
 mul-across c = omega arith
 
 add-across : tie.Need-add-across Inv-loop μ-loop
-add-across c = omega (arith, here (c .before .before .before .before .before .before))
+add-across c = omega (arith, here (turn c))
 
 add-h : tie.Need-add-h Inv-loop μ-loop
 add-h c = omega arith
@@ -70,18 +83,16 @@ loop-less c = omega arith
 
 loop-again : tie.Need-loop-again Inv-loop μ-loop
 loop-again c =
-    let loop = c .before .before .before .before .before .before .before .loop in
-    let loop-test = c .before .before .before .before .before .before .loop-test in
-    let turn = c .before .before .before .before .before .before in (
-      rising-more (loop .inv .0) (loop-test .taken) (rw (← forward-at (here turn)) at (c .before .before .before .subtract .ensures)),
-      λ below. label-across _ _ _ _ _ (here turn .is) (c .wide2 .ensures) (omega arith) (omega arith) (omega arith),
+    let t = turn c in (
+      rising-more (t .before .loop .inv .0) (t .loop-test .taken) (rw (← forward-at (here t)) at (c .before .before .before .subtract .ensures)),
+      λ below. label-across _ _ _ _ _ (here t .is) (c .wide2 .ensures) (omega arith) (omega arith) (omega arith),
     )
 
 returns : tie.Need-returns Inv-loop μ-loop
 returns c = rising-ends (c .before .loop .inv .0) (c .loop-test .left)
 
 same-length : tie.Need-same-length Inv-loop μ-loop
-same-length c = wrote-length (c .before .before .before .before .before .before .before .pre .1 .1 .1) (returns c)
+same-length c = wrote-length (entry (c .before) .pre .1 .1 .1) (returns c)
 
 pub write-left-spec : {M : Type 1} → statement M
 write-left-spec =

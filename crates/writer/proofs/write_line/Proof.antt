@@ -19,11 +19,14 @@ abbrev μ-loop : tie.MeasureT-loop
 abbrev head : tie.After-wide Inv-loop μ-loop → tie.At-loop Inv-loop μ-loop
 head c = c .before .before .before .before .before .before .before .before
 
-abbrev entry : tie.After-wide Inv-loop μ-loop → tie.Start Inv-loop μ-loop
-entry c = head c .before .before .before .before .before .before .before
+abbrev turn : tie.After-wide Inv-loop μ-loop → tie.In-loop Inv-loop μ-loop
+turn c = c .before .before .before .before .before .before .before
 
-below : (c : tie.After-wide Inv-loop μ-loop) → head c .loop .t ≤ entry c .args .n
-below c = c .before .before .before .before .before .before .before .loop-test .taken
+abbrev entry : tie.At-loop Inv-loop μ-loop → tie.Start Inv-loop μ-loop
+entry c = c .before .before .before .before .before .before .before
+
+below : (c : tie.After-wide Inv-loop μ-loop) → head c .loop .t ≤ entry (head c) .args .n
+below c = turn c .loop-test .taken
 
 abbrev wrote : tie.After-wide Inv-loop μ-loop → tie.After-write-next Inv-loop μ-loop
 wrote c = c .before .before .before
@@ -44,31 +47,31 @@ column-of-requires c κs = search needs
 
 write-next-requires : tie.Need-write-next-requires Inv-loop μ-loop
 write-next-requires c κs =
-    let start = c .before .before .before .before .before .before .before .before .before .before .before in
-    let loop = c .before .before .before .before .loop in
-    (start .pre .0, along-place (loop .inv) (start .pre .1 .0) (c .before .before .before .loop-test .taken) (c .before .row-of .ensures) (c .column-of .ensures) (start .pre .1 .1 .0))
+    let t = c .before .before .before in
+    let p = entry (t .before) .pre in
+    (p .0, along-place (t .before .loop .inv) (p .1 .0) (t .loop-test .taken) (c .before .row-of .ensures) (c .column-of .ensures) (p .1 .1 .0))
 
 -- the t-th place is written
-place-written : (c : tie.After-wide Inv-loop μ-loop) → let a = entry c .args in let w = wrote c .write-next in
+place-written : (c : tie.After-wide Inv-loop μ-loop) → let a = entry (head c) .args in let w = wrote c .write-next in
     Along (a .n) (a .plan .now) (a .work .now) (a .across) (a .m) (a .at .next) (a .words .now) (w .result) (head c .loop .t + 1) (w .last .1 .1 .1 .1 .1 .0)
 place-written c =
-    let p = entry c .pre in
+    let p = entry (head c) .pre in
     let w = wrote c .write-next .ensures in
     let at = wrote c .before in
     along-more (head c .loop .inv) (p .1 .0) (below c) (at .before .row-of .ensures) (at .column-of .ensures) (p .1 .1 .0) _ (w .0) (w .1)
 
 -- the line's last place has a work number, and so has this one
-room : (c : tie.After-wide Inv-loop μ-loop) → let a = entry c .args in let w = wrote c .write-next in
+room : (c : tie.After-wide Inv-loop μ-loop) → let a = entry (head c) .args in let w = wrote c .write-next in
     (w .result .done + (a .n - head c .loop .t) ≤ length (a .work .now)) × (w .result .done ≤ 360000)
 room c =
-    let p = entry c .pre in
+    let p = entry (head c) .pre in
     let v = head c .loop .inv in
-    omega (arith, line-long (entry c .args .across) (p .0) (p .1 .0) (v .rising .low) (below c) (v .before), wrote c .write-next .ensures .1 .0)
+    omega (arith, line-long (entry (head c) .args .across) (p .0) (p .1 .0) (v .rising .low) (below c) (v .before), wrote c .write-next .ensures .1 .0)
 
 -- what is passed over lies in the line
 within : (c : tie.After-struct-known Inv-loop μ-loop) → let w = c .before .before in
-    (head w .loop .t + c .before .zeros .result ≤ entry w .args .n) × (entry w .args .n ≤ 600) × (wrote w .write-next .result .done ≤ 360000)
-within c = let w = c .before .before in (omega (arith, c .before .zeros .ensures .0, below w), entry w .pre .0 .covers .high, room w .1)
+    (head w .loop .t + c .before .zeros .result ≤ entry (head w) .args .n) × (entry (head w) .args .n ≤ 600) × (wrote w .write-next .result .done ≤ 360000)
+within c = let w = c .before .before in (omega (arith, c .before .zeros .ensures .0, below w), entry (head w) .pre .0 .covers .high, room w .1)
 
 wide-requires : tie.Need-wide-requires Inv-loop μ-loop
 wide-requires c κs = search needs
@@ -92,7 +95,7 @@ loop-again : tie.Need-loop-again Inv-loop μ-loop
 loop-again c =
     let w = c .before .before in
     let z = c .before .zeros in
-    let p = entry w .pre in
+    let p = entry (head w) .pre in
     let on : head w .loop .t + (z .result + 1) ≡ head w .loop .t + 1 + z .result = omega arith in
     rw on (along-skips (p .0) (p .1 .0) (place-written w) (z .result) (omega (arith, within c)) (λ k early. rw (w .wide .ensures) at (z .ensures .1 k early)))
 
@@ -100,7 +103,7 @@ returns : tie.Need-returns Inv-loop μ-loop
 returns c = along-ends (c .before .loop .inv) (c .loop-test .left)
 
 same-length : tie.Need-same-length Inv-loop μ-loop
-same-length c = wrote-length (c .before .before .before .before .before .before .before .before .pre .1 .1 .1 .1) (returns c .0)
+same-length c = wrote-length (entry (c .before) .pre .1 .1 .1 .1) (returns c .0)
 
 pub write-line-spec : {M : Type 1} → statement M
 write-line-spec =

@@ -6,16 +6,28 @@ use denote.Ref.{now}
 use borrow.Author.Needs.{needs}
 use Rattle.model.specs.Label.{label}
 use Rattle.writer.specs.Worked.{backwardAt}
-use Rattle.writer.proofs.Products.{label-answered, Stands, stands, backward-at, label-left, Falling, falling-starts, falling-room, falling-more, falling-ends}
+use Rattle.writer.proofs.Products.{label-answered, Stands, stands, backward-at, label-left}
+use Rattle.writer.proofs.Products.{Falling, falling-starts, falling-room, falling-more, falling-ends}
 use Rattle.writer.proofs.Written.{wrote-length}
 use Rattle.writer.proofs.write_right.Statement.{statement}
 use Rattle.writer.proofs.write_right.Tie as tie
 
 abbrev Inv-loop : tie.InvT-loop
-Inv-loop n work rest₀ first k i next₀ h₀ across₀ rest next h across = Falling (backwardAt n work i) first k n i rest₀ next h rest × (i < h → across ≡ label n i h)
+Inv-loop n work rest₀ first k i next₀ h₀ across₀ rest next h across =
+    Falling (backwardAt n work i) first k n i rest₀ next h rest × (i < h → across ≡ label n i h)
 
 abbrev μ-loop : tie.MeasureT-loop
 μ-loop n work rest₀ first k i next₀ h₀ across₀ rest next h across = h
+
+-- Places of the code: a turn, the loop's head before it and its end after it; and the entry.
+abbrev Turn : Type 0
+Turn = tie.In-loop Inv-loop μ-loop
+
+abbrev entry : tie.At-loop Inv-loop μ-loop → tie.Start Inv-loop μ-loop
+entry c = c .before .before .before .before .before
+
+abbrev turn : tie.After-slice-known2 Inv-loop μ-loop → Turn
+turn c = c .before .before .before .before .before
 
 label-requires : tie.Need-label-requires Inv-loop μ-loop
 label-requires c κs = search needs
@@ -28,9 +40,8 @@ loop-holds c =
     let start = c .before .before .before .before in
     (falling-starts (omega arith) (start .pre .1 .1), λ above. c .wide .ensures ∙ (c .before .label .ensures ∙ label-answered _ _ _ _ (start .pre .0) (omega arith)))
 
-here : (c : tie.In-loop Inv-loop μ-loop)
-    → let a = c .before .before .before .before .before .before .args in Stands (a .n) (now (a .work)) (a .i) (c .before .loop .h) (c .before .loop .across)
-here c = stands (c .before .before .before .before .before .before .pre .0) (omega arith) (c .before .loop .inv .1 (c .loop-test .taken))
+here : (c : Turn) → let a = entry (c .before) .args in let l = c .before .loop in Stands (a .n) (now (a .work)) (a .i) (l .h) (l .across)
+here c = stands (entry (c .before) .pre .0) (omega arith) (c .before .loop .inv .1 (c .loop-test .taken))
 
 sub-subtract : tie.Need-sub-subtract Inv-loop μ-loop
 sub-subtract c = omega (arith, here (c .before))
@@ -42,10 +53,12 @@ shared-slice-read-subtract : tie.Need-shared-slice-read-subtract Inv-loop μ-loo
 shared-slice-read-subtract c = omega (arith, here (c .before .before))
 
 subtract-requires : tie.Need-subtract-requires Inv-loop μ-loop
-subtract-requires c κs = rw (backward-at (here (c .before .before))) at (falling-room (c .before .before .before .loop .inv .0) (c .before .before .loop-test .taken))
+subtract-requires c κs =
+    let t = c .before .before in
+    rw (backward-at (here t)) at (falling-room (t .before .loop .inv .0) (t .loop-test .taken))
 
 sub-across : tie.Need-sub-across Inv-loop μ-loop
-sub-across c = omega (arith, here (c .before .before .before .before .before))
+sub-across c = omega (arith, here (turn c))
 
 sub-h : tie.Need-sub-h Inv-loop μ-loop
 sub-h c = omega arith
@@ -55,18 +68,16 @@ loop-less c = omega arith
 
 loop-again : tie.Need-loop-again Inv-loop μ-loop
 loop-again c =
-    let loop = c .before .before .before .before .before .before .loop in
-    let loop-test = c .before .before .before .before .before .loop-test in
-    let turn = c .before .before .before .before .before in (
-      falling-more (loop .inv .0) (loop-test .taken) (rw (← backward-at (here turn)) at (c .before .before .subtract .ensures)),
-      label-left _ _ _ _ (here turn .is),
+    let t = turn c in (
+      falling-more (t .before .loop .inv .0) (t .loop-test .taken) (rw (← backward-at (here t)) at (c .before .before .subtract .ensures)),
+      label-left _ _ _ _ (here t .is),
     )
 
 returns : tie.Need-returns Inv-loop μ-loop
 returns c = falling-ends (c .before .loop .inv .0) (c .loop-test .left)
 
 same-length : tie.Need-same-length Inv-loop μ-loop
-same-length c = wrote-length (c .before .before .before .before .before .before .pre .1 .1) (returns c)
+same-length c = wrote-length (entry (c .before) .pre .1 .1) (returns c)
 
 pub write-right-spec : {M : Type 1} → statement M
 write-right-spec =

@@ -39,10 +39,9 @@ part-write-backward-end c = search needs
 write-backward-requires : tie.Need-write-backward-requires Inv-loop μ-loop
 unfolding xAt
 write-backward-requires c κs =
-    let start = c .before .before .before .before .before .before in (
-      start .pre .0,
-      (omega arith, lent-room (ap (_*_ 4) (c .before .wide .ensures)) (falling-room (c .before .before .before .loop .inv) (c .before .before .loop-test .taken))),
-    )
+    let t = c .before .before in
+    let room = falling-room (t .before .loop .inv) (t .loop-test .taken) in
+    (t .before .before .before .before .pre .0, (omega arith, lent-room (ap (_*_ 4) (c .before .wide .ensures)) room))
 
 sub-i : tie.Need-sub-i Inv-loop μ-loop
 sub-i c = omega arith
@@ -53,10 +52,9 @@ loop-less c = omega arith
 loop-again : tie.Need-loop-again Inv-loop μ-loop
 unfolding xAt
 loop-again c =
-    let loop = c .before .before .before .before .before .before .loop in
-    let loop-test = c .before .before .before .before .before .loop-test in
-    let wide = c .before .before .before .before .wide in
-    falling-more (loop .inv) (loop-test .taken) (lent-back (ap (_*_ 4) (wide .ensures)) (c .before .before .write-backward .ensures))
+    let w = c .before .before .before .before in
+    let t = w .before in
+    falling-more (t .before .loop .inv) (t .loop-test .taken) (lent-back (ap (_*_ 4) (w .wide .ensures)) (c .before .before .write-backward .ensures))
 
 returns : tie.Need-returns Inv-loop μ-loop
 returns c = falling-ends (c .before .loop .inv) (c .loop-test .left)
