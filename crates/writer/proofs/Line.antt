@@ -148,10 +148,11 @@ module _ {n : ℕ} {L : Plan} {work : List ℕ} {across : Bool} {m : ℕ} where
       pub along-more : (after : Cursor) {words′ : List ℕ} → Wrote 0 (at .next) (placeAt n L work divisor i j) words words′ (after .next)
           → (after .done ≡ suc (at .done)) × (after .passed ≡ passedBy L (after .done)) → Along n L work across m k₀ words₀ after (t + 1) words′
       along-more after wrote moved =
+          let here = ap suc (along .before .here) ∙ sym (line-next n m t across (along .rising .low)) in
           record {
             rising = rising-more (along .rising) (omega arith) (rw place-of-line wrote);
             high = omega arith;
-            before = record { here = rw (moved .0, add-one) (ap suc (along .before .here) ∙ sym (line-next n m t across (along .rising .low))); passed = moved .1 };
+            before = record { here = rw (moved .0, add-one) here; passed = moved .1 };
           }
 
     pub along-ends : n < t

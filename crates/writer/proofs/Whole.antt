@@ -101,7 +101,8 @@ module _ {n : ℕ} {L : Plan} {work inRows inColumns words : List ℕ} {s : ℕ}
   all-records : compiledRecords n L ≡ batchRecords n L work ++ solutionRecords n work
   all-records = records-agree n L work (slots-agree n L work (p .numbers))
 
-  long : 4 ≤ length words
+  -- record 0 has room
+  pub long : 4 ≤ length words
   long = omega (arith, counted, p .fits)
 
   headed-room : Room 0 1 (compiledRecords n L) (headed n L words s)

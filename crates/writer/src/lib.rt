@@ -264,7 +264,8 @@ fn write_place(n: u32, work: &[u32], rest: &mut [u32], k: u32, place: Place, fro
     requires { ⌜ Inside n (place .row) (place .column) ⌝ }
     requires { ⌜ NoneBelow (innerAt n (now work) (place .row) (place .column)) from (min (place .row) (place .column)) ⌝ }
     requires { ⌜ Room k k (recordsOf (formulaAt n (now work) (place .slot) (place .position) (place .divisor) (place .row) (place .column))) (now rest) ⌝ }
-    ensures { λ r. ⌜ Wrote k k (recordsOf (formulaAt n (now (work .entry)) (place .slot) (place .position) (place .divisor) (place .row) (place .column))) (now (rest .entry)) (now (rest .exit)) r ⌝ }
+    ensures { λ r. ⌜ Wrote k k (recordsOf (formulaAt n (now (work .entry)) (place .slot) (place .position) (place .divisor) (place .row) (place .column)))
+        (now (rest .entry)) (now (rest .exit)) r ⌝ }
 {
     let i = place.row;
     let j = place.column;
@@ -296,7 +297,8 @@ fn write_forward(
     requires { ⌜ pivot ≡ numberAt n (now work) m m ⌝ }
     requires { ⌜ NoneBelow (forwardAt n (now work) m) from m ⌝ }
     requires { ⌜ Room k k (recordsOf (forward n [] (numberAt n (now work)) (keptAt n (now work)) m)) (now rest) ⌝ }
-    ensures { λ r. ⌜ Wrote k k (recordsOf (forward n [] (numberAt n (now (work .entry))) (keptAt n (now (work .entry))) m)) (now (rest .entry)) (now (rest .exit)) r ⌝ }
+    ensures { λ r. ⌜ Wrote k k (recordsOf (forward n [] (numberAt n (now (work .entry))) (keptAt n (now (work .entry))) m))
+        (now (rest .entry)) (now (rest .exit)) r ⌝ }
 {
     let opened = put(rest, k, k, 2, m, 0);
     let reduced = write_left(n, work, rest, k, opened, m, from);
@@ -309,7 +311,8 @@ fn write_backward(n: u32, work: &[u32], rest: &mut [u32], k: u32, i: u32) -> u32
     requires { ⌜ Covers n (now work) ⌝ }
     requires { ⌜ Inside n i i ⌝ }
     requires { ⌜ Room k k (recordsOf (backward n [] (numberAt n (now work)) (keptAt n (now work)) i)) (now rest) ⌝ }
-    ensures { λ r. ⌜ Wrote k k (recordsOf (backward n [] (numberAt n (now (work .entry))) (keptAt n (now (work .entry))) i)) (now (rest .entry)) (now (rest .exit)) r ⌝ }
+    ensures { λ r. ⌜ Wrote k k (recordsOf (backward n [] (numberAt n (now (work .entry))) (keptAt n (now (work .entry))) i))
+        (now (rest .entry)) (now (rest .exit)) r ⌝ }
 {
     let opened = put(rest, k, k, 3, i, 0);
     let reduced = write_right(n, work, rest, k, opened, i);

@@ -20,7 +20,7 @@ Inv-loop n work rest₀ first k m from next₀ h₀ across₀ rest next h across
 abbrev μ-loop : tie.MeasureT-loop
 μ-loop n work rest₀ first k m from next₀ h₀ across₀ rest next h across = m - h
 
--- Places of the code: a turn, the loop's head before it and its end after it; and the entry.
+-- Places of the code: a turn, seen from its end, and the entry, seen from the loop's head.
 abbrev Turn : Type 0
 Turn = tie.In-loop Inv-loop μ-loop
 

@@ -15,21 +15,22 @@ Inv-loop n plan work rows columns words₀ m across divisor at₀ t₀ words at 
 abbrev μ-loop : tie.MeasureT-loop
 μ-loop n plan work rows columns words₀ m across divisor at₀ t₀ words at t = suc n - t
 
--- Places of the code: the line's head and the entry before a place that is written, that it is one of the line, and its writing.
-abbrev head : tie.After-wide Inv-loop μ-loop → tie.At-loop Inv-loop μ-loop
-head c = c .before .before .before .before .before .before .before .before
+-- Places of the code: where a turn has written its place, its start and the line's head; and the entry, seen from the head.
+abbrev wrote : tie.After-wide Inv-loop μ-loop → tie.After-write-next Inv-loop μ-loop
+wrote c = c .before .before .before
 
 abbrev turn : tie.After-wide Inv-loop μ-loop → tie.In-loop Inv-loop μ-loop
 turn c = c .before .before .before .before .before .before .before
 
+abbrev head : tie.After-wide Inv-loop μ-loop → tie.At-loop Inv-loop μ-loop
+head c = turn c .before
+
 abbrev entry : tie.At-loop Inv-loop μ-loop → tie.Start Inv-loop μ-loop
 entry c = c .before .before .before .before .before .before .before
 
+-- its place is one of the line
 below : (c : tie.After-wide Inv-loop μ-loop) → head c .loop .t ≤ entry (head c) .args .n
 below c = turn c .loop-test .taken
-
-abbrev wrote : tie.After-wide Inv-loop μ-loop → tie.After-write-next Inv-loop μ-loop
-wrote c = c .before .before .before
 
 first-of-requires : tie.Need-first-of-requires Inv-loop μ-loop
 first-of-requires c κs = omega arith

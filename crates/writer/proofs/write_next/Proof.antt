@@ -3,16 +3,29 @@ use native.Mathlib.Numerals.{add-one}
 use native.Mathlib.Omega.{arith}
 use mathlib.Core.Path.{_≡_, ap, _∙_}
 use denote.Ref.{now}
-use lib.ListN.{getD}
+use lib.ListN.{length, getD}
 use Rattle.model.specs.Program.{recordsOf}
 use Rattle.writer.specs.Worked.{formulaAt}
 use Rattle.writer.specs.Line.{placeAt}
-use Prim.Native.Nat.{suc, _*_}
+use Prim.Native.Nat.{suc, _*_, _≤_, _<_}
 use borrow.Author.Needs.{needs}
 use Rattle.writer.proofs.Written.{wrote-none, lent-room, lent-back}
 use Rattle.writer.proofs.Line.{inner-none, place-left-out, place-kept, place-bounds, passed-left-out, position-found, passed-kept}
 use Rattle.writer.proofs.write_next.Statement.{statement}
 use Rattle.writer.proofs.write_next.Tie as tie
+
+-- Places of the code: where the place's words begin, where its position is found and where its slot is read, each seen from a later one; and the entry.
+abbrev entry : tie.After-shared-slice-known5 → tie.Start
+entry c = c .before .before .before .before .before .before .before
+
+abbrev read : tie.After-position → tie.After-shared-slice-known5
+read c = c .before .before
+
+abbrev found : tie.After-wide4 → tie.After-position
+found c = c .before .before .before .before .before .before
+
+abbrev begun : tie.After-larger2 → tie.After-wide4
+begun c = c .before .before .before .before .before
 
 wide-requires : tie.Need-wide-requires
 wide-requires c κs = search needs
@@ -20,28 +33,27 @@ wide-requires c κs = search needs
 mul-slot : tie.Need-mul-slot
 mul-slot c = search needs
 
+-- the place has a work number, and labels are small
+bounds : (c : tie.After-shared-slice-known5) → let at = entry c .args .at in
+    (at .done < length (now (entry c .args .work))) × (at .done < 360000) × (at .passed ≤ 360000)
+bounds c = let p = entry c .pre in omega (arith, place-bounds (p .0) (p .1 .0) (p .1 .1 .0))
+
 shared-slice-read-slot : tie.Need-shared-slice-read-slot
-shared-slice-read-slot c =
-    let start = c .before .before .before .before .before .before .before in
-    omega (arith, place-bounds (start .pre .0) (start .pre .1 .0) (start .pre .1 .1 .0))
+shared-slice-read-slot c = omega (arith, bounds c)
 
 add-label : tie.Need-add-label
-add-label c =
-    let start = c .before .before .before .before .before .before .before in
-    omega (arith, place-bounds (start .pre .0) (start .pre .1 .0) (start .pre .1 .1 .0))
+add-label c = omega (arith, bounds c)
 
 returns : tie.Need-returns
 returns c =
-    let start = c .before .before .before .before .before .before .before .before in
+    let p = entry (c .before) .pre in
     let wide = c .before .before .wide in (
-      rw (place-left-out (start .pre .0) (start .pre .1 .0) (wide .result) _ (ap suc (wide .ensures) ∙ start .pre .1 .1 .0 .here) (c .if1 .taken)) wrote-none,
-      (add-one _, passed-left-out (start .pre .0) (start .pre .1 .0) (start .pre .1 .1 .0) (rw (wide .ensures) at (c .if1 .taken))),
+      rw (place-left-out (p .0) (p .1 .0) (wide .result) _ (ap suc (wide .ensures) ∙ p .1 .1 .0 .here) (c .if1 .taken)) wrote-none,
+      (add-one _, passed-left-out (p .0) (p .1 .0) (p .1 .1 .0) (rw (wide .ensures) at (c .if1 .taken))),
     )
 
 position-requires : tie.Need-position-requires
-position-requires c κs =
-    let start = c .before .before .before .before .before .before .before .before in
-    omega (arith, place-bounds (start .pre .0) (start .pre .1 .0) (start .pre .1 .1 .0))
+position-requires c κs = omega (arith, bounds (c .before))
 
 wide-requires-2 : tie.Need-wide-requires-2
 wide-requires-2 c κs = search needs
@@ -83,23 +95,23 @@ part-write-place-end : tie.Need-part-write-place-end
 part-write-place-end c = search needs
 
 -- the place is held
-kept : (c : tie.After-position)
-    → let a = c .before .before .before .before .before .before .before .before .before .args in placeAt (a .n) (now (a .plan)) (now (a .work)) (a .divisor) (a .i) (a .j)
-    ≡ recordsOf (formulaAt (a .n) (now (a .work)) (getD (now (a .work)) (c .before .before .before .wide .result) 0) (c .position .result) (a .divisor) (a .i) (a .j))
+kept : (c : tie.After-position) → let a = entry (read c) .args in let slot = getD (now (a .work)) (read c .before .wide .result) 0 in
+    placeAt (a .n) (now (a .plan)) (now (a .work)) (a .divisor) (a .i) (a .j)
+    ≡ recordsOf (formulaAt (a .n) (now (a .work)) slot (c .position .result) (a .divisor) (a .i) (a .j))
 kept c =
-    let start = c .before .before .before .before .before .before .before .before .before in
-    let wide = c .before .before .before .wide in
-    place-kept (start .pre .0) (start .pre .1 .0) (wide .result) _ (ap suc (wide .ensures) ∙ start .pre .1 .1 .0 .here) (c .position .result) (c .before .if1 .left)
-    (position-found (start .pre .0) (start .pre .1 .0) (start .pre .1 .1 .0) _ (c .position .ensures))
+    let p = entry (read c) .pre in
+    let wide = read c .before .wide in
+    place-kept (p .0) (p .1 .0) (wide .result) _ (ap suc (wide .ensures) ∙ p .1 .1 .0 .here) (c .position .result) (c .before .if1 .left)
+    (position-found (p .0) (p .1 .0) (p .1 .1 .0) _ (c .position .ensures))
 
 write-place-requires : tie.Need-write-place-requires
 write-place-requires c κs =
-    let start = c .before .before .before .before .before .before .before .before .before .before .before .before .before .before .before .before in
+    let f = found (c .before) in
+    let p = entry (read f) .pre in
     let wide2 = c .before .before .before .before .before .before .wide2 in
-    let found = c .before .before .before .before .before .before .before in
     let wide3 = c .before .before .before .before .wide3 in
-    let none = inner-none (start .pre .0) _ _ _ _ _ (start .pre .1 .0) (wide2 .ensures) (wide3 .ensures) (c .before .before .larger .ensures) in
-    (start .pre .0 .covers, (start .pre .1 .0, (none, lent-room (ap (_*_ 4) (c .before .wide4 .ensures)) (rw (kept found) at (start .pre .1 .1 .1)))))
+    let none = inner-none (p .0) _ _ _ _ _ (p .1 .0) (wide2 .ensures) (wide3 .ensures) (c .before .before .larger .ensures) in
+    (p .0 .covers, (p .1 .0, (none, lent-room (ap (_*_ 4) (c .before .wide4 .ensures)) (rw (kept f) at (p .1 .1 .1)))))
 
 larger-requires-2 : tie.Need-larger-requires-2
 larger-requires-2 c κs = search needs
@@ -109,12 +121,10 @@ same-length c = search needs
 
 returns-2 : tie.Need-returns-2
 returns-2 c =
-    let start = c .before .before .before .before .before .before .before .before .before .before .before .before .before .before .before .before .before .before .before .before in
-    let position = c .before .before .before .before .before .before .before .before .before .before .before .position in
-    let found = c .before .before .before .before .before .before .before .before .before .before .before in
-    let wide4 = c .before .before .before .before .before .wide4 in (
-      rw (kept found) (lent-back (ap (_*_ 4) (wide4 .ensures)) (c .before .before .before .write-place .ensures)),
-      (add-one _, c .larger2 .ensures ∙ passed-kept (start .pre .0) (start .pre .1 .0) (start .pre .1 .1 .0) _ (position .ensures)),
+    let f = found (begun c) in
+    let p = entry (read f) .pre in (
+      rw (kept f) (lent-back (ap (_*_ 4) (begun c .wide4 .ensures)) (c .before .before .before .write-place .ensures)),
+      (add-one _, c .larger2 .ensures ∙ passed-kept (p .0) (p .1 .0) (p .1 .1 .0) _ (f .position .ensures)),
     )
 
 pub write-next-spec : {M : Type 1} → statement M

@@ -19,7 +19,7 @@ Inv-loop n work rest₀ first k i next₀ h₀ across₀ rest next h across =
 abbrev μ-loop : tie.MeasureT-loop
 μ-loop n work rest₀ first k i next₀ h₀ across₀ rest next h across = h
 
--- Places of the code: a turn, the loop's head before it and its end after it; and the entry.
+-- Places of the code: a turn, seen from its end, and the entry, seen from the loop's head.
 abbrev Turn : Type 0
 Turn = tie.In-loop Inv-loop μ-loop
 
@@ -37,8 +37,10 @@ wide-requires c κs = search needs
 
 loop-holds : tie.Need-loop-holds Inv-loop μ-loop
 loop-holds c =
-    let start = c .before .before .before .before in
-    (falling-starts (omega arith) (start .pre .1 .1), λ above. c .wide .ensures ∙ (c .before .label .ensures ∙ label-answered _ _ _ _ (start .pre .0) (omega arith)))
+    let start = c .before .before .before .before in (
+      falling-starts (omega arith) (start .pre .1 .1),
+      λ above. c .wide .ensures ∙ (c .before .label .ensures ∙ label-answered _ _ _ _ (start .pre .0) (omega arith)),
+    )
 
 here : (c : Turn) → let a = entry (c .before) .args in let l = c .before .loop in Stands (a .n) (now (a .work)) (a .i) (l .h) (l .across)
 here c = stands (entry (c .before) .pre .0) (omega arith) (c .before .loop .inv .1 (c .loop-test .taken))
