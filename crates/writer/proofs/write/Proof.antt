@@ -8,7 +8,7 @@ use Rattle.writer.proofs.Whole.{ready, counted, long, batch-room, solut
 use Rattle.writer.proofs.write.Statement.{statement}
 use Rattle.writer.proofs.write.Tie as tie
 
--- Places of the code: the end, where the solution is written and where the batches are; and the entry.
+-- Places of the code: where the solution and where the batches are written, each seen from a later one; and the entry.
 abbrev entry : tie.After-write-batches → tie.Start
 entry c = c .before .before .before .before .before .before .before
 

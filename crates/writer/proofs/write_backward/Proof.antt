@@ -5,7 +5,7 @@ use Rattle.writer.proofs.Formulas.{backward-parts}
 use Rattle.writer.proofs.write_backward.Statement.{statement}
 use Rattle.writer.proofs.write_backward.Tie as tie
 
--- Places of the code: where x(i) is reduced and opened, each seen from the next, and the entry.
+-- Places of the code: where x(i) is reduced and opened, each seen from the next; and the entry.
 abbrev entry : tie.After-put → tie.Start
 entry c = c .before .before .before .before
 

@@ -5,7 +5,7 @@ use Rattle.writer.proofs.Formulas.{forward-parts}
 use Rattle.writer.proofs.write_forward.Statement.{statement}
 use Rattle.writer.proofs.write_forward.Tie as tie
 
--- Places of the code: where y(m) is divided, reduced and opened, each seen from the next, and the entry.
+-- Places of the code: where y(m) is divided, reduced and opened, each seen from the next; and the entry.
 abbrev entry : tie.After-put → tie.Start
 entry c = c .before .before .before .before
 

@@ -50,10 +50,10 @@ wide-requires-2 c κs = search needs
 
 loop-holds : tie.Need-loop-holds Inv-loop μ-loop
 loop-holds c =
-    let first = c .before .before .before .before in
-    let p = first .before .before .before .before .pre in (
-      first .before .smaller .ensures,
-      rw (first .larger .ensures) (rising-skips _ (p .1 .1 .0) (p .1 .1 .1)),
+    let lowest = c .before .before .before .before in
+    let p = lowest .before .before .before .before .pre in (
+      lowest .before .smaller .ensures,
+      rw (lowest .larger .ensures) (rising-skips _ (p .1 .1 .0) (p .1 .1 .1)),
       (λ below. c .before .before .wide .ensures ∙ (c .before .before .before .label .ensures ∙ label-answered _ _ _ _ (p .0) (omega arith))),
       λ below. c .wide2 .ensures ∙ (c .before .label2 .ensures ∙ label-answered _ _ _ _ (p .0) (omega arith)),
     )

@@ -6,7 +6,7 @@ use Rattle.writer.proofs.Formulas.{place-parts}
 use Rattle.writer.proofs.write_place.Statement.{statement}
 use Rattle.writer.proofs.write_place.Tie as tie
 
--- Places of the code: where the formula is divided, reduced and opened, each seen from the next, and the entry.
+-- Places of the code: where the formula is divided, reduced and opened, each seen from the next; and the entry.
 abbrev entry : tie.After-put → tie.Start
 entry c = c .before .before .before .before
 
