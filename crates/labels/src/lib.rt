@@ -1,9 +1,9 @@
 // Labels of places and places of labels: document 01, "Places and labels".
+use numbers::within;
 ghost use mathlib.Core.Path.{_≡_};
 ghost use mathlib.Core.Bool.{cond};
 ghost use Prim.Native.Nat.{_*_, _≤_, _<_};
 ghost use Rattle.model.specs.Label.{isLabel, sought, at};
-ghost use Rattle.model.specs.Label.{within as Label·within};
 ghost use Rattle.model.specs.Label.{label as Label·label};
 ghost use Rattle.model.specs.Label.{place as Label·place};
 ghost use Rattle.model.specs.Boundary.{labelNumber};
@@ -24,13 +24,6 @@ pub fn label(n: u32, i: u32, j: u32) -> u32
     } else {
         0
     }
-}
-
-// Whether k lies in 1..n.
-fn within(k: u32, n: u32) -> bool
-    ensures { λ r. ⌜ r ≡ Label·within k n ⌝ }
-{
-    0 < k && k <= n
 }
 
 // (2.8), for numbers in range.

@@ -34,7 +34,8 @@ returns-2 c =
     let order = c .before .within .ensures in
     labelNumber-is _ _ _
     (⊎-elim (λ w. isPlace-is _ _ _ (sym (w .0 .taken) ∙ order) (sym (w .2 .taken) ∙ w .1 .ensures) (sym (w .4 .left) ∙ w .3 .ensures))
-    (⊎-elim (λ w. isPlace-is _ _ _ (sym (w .0 .taken) ∙ order) (sym (w .2 .left) ∙ w .1 .ensures) refl) (λ w. isPlace-is _ _ _ (sym (w .left) ∙ order) refl refl))
+    (⊎-elim (λ w. isPlace-is _ _ _ (sym (w .0 .taken) ∙ order) (sym (w .2 .left) ∙ w .1 .ensures) refl)
+    (λ w. isPlace-is _ _ _ (sym (w .left) ∙ order) refl refl))
     (c .if1 .came))
 
 pub label-spec : {M : Type 1} → statement M

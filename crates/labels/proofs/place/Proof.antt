@@ -36,7 +36,9 @@ returns-2 : tie.Need-returns-2
 returns-2 c =
     let order = c .before .within .ensures in
     sought-is _ _
-    (⊎-elim (λ w. isLabel-is _ _ (sym (w .0 .taken) ∙ order) (sym (w .2 .left) ∙ w .1 .ensures)) (λ w. isLabel-is _ _ (sym (w .left) ∙ order) refl) (c .if1 .came))
+    (⊎-elim (λ w. isLabel-is _ _ (sym (w .0 .taken) ∙ order) (sym (w .2 .left) ∙ w .1 .ensures))
+    (λ w. isLabel-is _ _ (sym (w .left) ∙ order) refl)
+    (c .if1 .came))
 
 pub place-spec : {M : Type 1} → statement M
 place-spec =
