@@ -1,8 +1,9 @@
 // What the listing program reads, without the reading itself: bytes to numbers. Document 01, "Listing program".
+use numbers::shorter;
 ghost use mathlib.Core.Path.{_≡_};
 ghost use mathlib.Core.Bool.{true};
 ghost use mathlib.Core.List.{List};
-ghost use Prim.Native.Nat.{ℕ, _-_, _≤_, min};
+ghost use Prim.Native.Nat.{ℕ, _-_, _≤_};
 ghost use lib.ListN.{length, take};
 ghost use Rattle.model.specs.Text.{fed, joining};
 ghost use Rattle.model.specs.Text as Text;
@@ -125,7 +126,7 @@ fn named(position: u64, count: usize, numbers: &[u32]) -> Scanned
     ensures { λ r. ⌜ scannedOf r (now (numbers .entry)) ≡ Text.named position (take count (now (numbers .entry))) ⌝ }
     ensures { λ r. ⌜ Counted r count (length (now (numbers .entry))) ⌝ }
 {
-    let standing = least(count, numbers.len());
+    let standing = shorter(count, numbers.len());
     if standing == 0 {
         return Scanned::BadAt(position);
     }
@@ -133,12 +134,6 @@ fn named(position: u64, count: usize, numbers: &[u32]) -> Scanned
         order: numbers[0],
         labels: standing - 1,
     }
-}
-
-fn least(a: usize, b: usize) -> usize
-    ensures { λ r. ⌜ r ≡ min a b ⌝ }
-{
-    if a < b { a } else { b }
 }
 
 // A number that has ended is put after those before it, if there is room; the answer is how many there are then.

@@ -15,10 +15,18 @@ use Rattle.text.proofs.feed.Tie as tie
 abbrev Inv-loop : tie.InvT-loop
 Inv-loop bytes numbers₀ reached₀ i₀ numbers reached i =
     (i ≤ length bytes) × (length numbers ≡ length numbers₀)
-    × (fed (length numbers₀) (textOf reached numbers) (drop i bytes) ≡ fed (length numbers₀) (textOf reached₀ numbers₀) bytes) × Kept (reached₀ .count) (reached .count) numbers₀ numbers
+    × (fed (length numbers₀) (textOf reached numbers) (drop i bytes) ≡ fed (length numbers₀) (textOf reached₀ numbers₀) bytes)
+    × Kept (reached₀ .count) (reached .count) numbers₀ numbers
 
 abbrev μ-loop : tie.MeasureT-loop
 μ-loop bytes numbers₀ reached₀ i₀ numbers reached i = length bytes - i
+
+-- Places of the code: where a turn begins, with the entry before it.
+abbrev head : tie.After-slice-known2 Inv-loop μ-loop → tie.At-loop Inv-loop μ-loop
+head c = c .before .before .before .before .before .before
+
+abbrev entry : tie.At-loop Inv-loop μ-loop → tie.Start Inv-loop μ-loop
+entry c = c .before .before .before
 
 loop-holds : tie.Need-loop-holds Inv-loop μ-loop
 loop-holds c = (omega arith, refl, refl, kept-same _ _)
@@ -37,13 +45,13 @@ loop-less c = omega arith
 
 loop-again : tie.Need-loop-again Inv-loop μ-loop
 loop-again c =
-    let l = c .before .before .before .before .before .before .loop in
-    let a = c .before .before .before .before .before .before .before .before .before .args in
+    let l = head c .loop in
+    let bytes = entry (head c) .args .bytes .now in
     let t = textOf (l .reached) (l .numbers) in
     let call = c .before .before .step in (
       omega arith,
       call .kept .1 .1 .0 ∙ l .inv .1,
-      fed-turn _ (a .bytes .now) (l .i) t (omega arith) (call .ensures .0 ∙ ap (λ n. step n t (getD (a .bytes .now) (l .i) 0)) (l .inv .1)) ∙ l .inv .2,
+      fed-turn _ bytes (l .i) t (omega arith) (call .ensures .0 ∙ ap (λ n. step n t (getD bytes (l .i) 0)) (l .inv .1)) ∙ l .inv .2,
       kept-more (l .inv .3) (call .ensures .1),
     )
 
@@ -53,7 +61,7 @@ same-length c = c .before .loop .inv .1
 returns : tie.Need-returns Inv-loop μ-loop
 returns c =
     let l = c .before .loop in
-    (fed-all _ _ (c .before .before .before .before .args .bytes .now) (l .i) (omega arith) ∙ l .inv .2, l .inv .3)
+    (fed-all _ _ (entry (c .before) .args .bytes .now) (l .i) (omega arith) ∙ l .inv .2, l .inv .3)
 
 pub feed-spec : {M : Type 1} → statement M
 feed-spec =

@@ -51,8 +51,12 @@ returns-3 c =
     let a = w .before .before .before .before .before .before .args in
     let call = c .named2 in
     let ys = w .join .last .1 .1 .0 in (
-      call .ensures .0 ∙ ap (Text.named (a .self .position)) (w .join .ensures .0) ∙ ended-within _ _ (ap stageOf (w .before .before .before .stage2 .given .1)),
-      (standing (call .result) (w .join .result) (length ys) (call .ensures .1), untouched-joined (w .join .ensures .1) (w .join .kept .1 .1 .0) (call .result) (call .ensures .1)),
+      call .ensures .0 ∙ ap (Text.named (a .self .position)) (w .join .ensures .0)
+          ∙ ended-within _ _ (ap stageOf (w .before .before .before .stage2 .given .1)),
+      (
+        standing (call .result) (w .join .result) (length ys) (call .ensures .1),
+        untouched-joined (w .join .ensures .1) (w .join .kept .1 .1 .0) (call .result) (call .ensures .1),
+      ),
     )
 
 pub ended-spec : {M : Type 1} → statement M
