@@ -2,10 +2,10 @@
 use compiler::Compilation;
 use libc::STDIN_FILENO;
 use libc::STDOUT_FILENO;
+use numbers::wide;
 use text::Reading;
 use text::Scanned;
 ghost use Prim.Native.Nat.{_+_, _*_, _≤_, _<_};
-ghost use mathlib.Core.Path.{_≡_};
 ghost use lib.ListN.{length};
 
 // A reading, and whether more of the input may change it.
@@ -98,11 +98,4 @@ fn print_refusal(number: u32, detail: u64) {
     let mut line = [0u8; 64];
     let size = output::refusal_line(number, detail, &mut line);
     io::write_all(STDOUT_FILENO, &line[..size]);
-}
-
-// A record's index as a place of the words.
-fn wide(x: u32) -> usize
-    ensures { λ r. ⌜ r ≡ x ⌝ }
-{
-    x as usize
 }

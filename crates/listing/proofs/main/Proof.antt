@@ -30,8 +30,11 @@ enum-known-order : tie.Need-enum-known-order
 enum-known-order c = search needs
 
 -- the labels stand in the numbers, after N
-standing : (c : tie.After-known-told2) → c .before .order .given .0 .1 .0 < length (c .before .before .before .before .ended .last .1 .0)
-standing c = subst (λ r. Standing r (length (c .before .before .before .before .ended .last .1 .0))) (c .before .order .given .1) (c .before .before .before .before .ended .ensures .1 .0)
+standing : (c : tie.After-known-told2) → let call = c .before .before .before .before .ended in
+    c .before .order .given .0 .1 .0 < length (call .last .1 .0)
+standing c =
+    let call = c .before .before .before .before .ended in
+    subst (λ r. Standing r (length (call .last .1 .0))) (c .before .order .given .1) (call .ensures .1 .0)
 
 add-end : tie.Need-add-end
 add-end c = omega (arith, standing c)
