@@ -1,8 +1,10 @@
--- How the code reads, tests and settles: +0 added to a value reads it, a sum with a value that was read is never -0 (both of values that the format holds), and x - x tells a number.
+-- How the code reads, tests and settles: +0 added to a value reads it, a sum with a value that was read is never -0 (both of values that the format holds), and
+-- x - x tells a number.
 use mathlib.Core.Path.{_≡_, refl, sym, ap, _∙_}
 use mathlib.Core.Bool.{Bool, true, false, not, cond, _&&_, and-false, Bool·beq}
 use Prim.Native.Nat.{ℕ, zero, suc, _+_, _-_, _*_, _/_, _%_, _^_, _≤_, _<_, zero-le, compare}
-use native.Mathlib.Nat.{le-refl, lt-of-lt-of-le, lt-of-not-le, add-zero, sub-zero, sub-self, zero-mul, mul-pos, mul-le-mul-right, lt-of-mul-lt-mul-right, div-mul-le-self, le-div-iff-mul-le, zero-lt-suc}
+use native.Mathlib.Nat.{le-refl, lt-of-lt-of-le, lt-of-not-le, add-zero, sub-zero, sub-self, zero-mul, zero-lt-suc}
+use native.Mathlib.Nat.{mul-pos, mul-le-mul-right, lt-of-mul-lt-mul-right, div-mul-le-self, le-div-iff-mul-le}
 use native.Mathlib.Omega.{arith}
 use borrow.Author.Tests.{ltb-true, ltb-false, lt-ltb, le-ltb, ne-eqb}
 use lib.IntN.{ℤ, pos}
@@ -78,7 +80,8 @@ sum-clean : (f : Format) (s : Bool) (a : ℕ) (t : Bool) (b c u v : ℕ) → 0 <
 unfolding sum clean
 sum-clean f s a t b c u v C B p q = go (Bool·beq s t) (ltb a b) (ltb b a) refl refl
   where
-    go : (same less more : Bool) → ltb a b ≡ less → ltb b a ≡ more → Clean (cond same (round f s (a + b) c) (cond less (round f t (b - a) c) (round f (s && more) (a - b) c)))
+    go : (same less more : Bool) → ltb a b ≡ less → ltb b a ≡ more
+        → Clean (cond same (round f s (a + b) c) (cond less (round f t (b - a) c) (round f (s && more) (a - b) c)))
     go true less more l m = round-clean f s (a + b) c C (gap (2 ^ low f) 0 (a + b) c 0 (u + v) (pow-pos (low f)) (omega arith) (omega arith) (omega arith))
     go false true more l m = apart f t a b c u v C p q (ltb-true a b l)
     go false false true l m = apart f (s && true) b a c v u C q p (ltb-true b a m)
@@ -140,7 +143,8 @@ add-clean f (fin s m d) (fin t (suc n) e) p q =
     let (u, x) = in-smallest f s m d p in
     let (v, y) = in-smallest f t (suc n) e q in
     sym
-    (sum-clean f s (m * up d * down e) t (suc n * up e * down d) (down d * down e) u v (mul-pos (down-pos d) (down-pos e)) (mul-pos (mul-pos (zero-lt-suc n) (up-pos e)) (down-pos d))
+    (sum-clean f s (m * up d * down e) t (suc n * up e * down d) (down d * down e) u v
+    (mul-pos (down-pos d) (down-pos e)) (mul-pos (mul-pos (zero-lt-suc n) (up-pos e)) (down-pos d))
     (omega (arith, ap (λ (z : ℕ). z * down e) x)) (omega (arith, ap (λ (z : ℕ). z * down d) y)))
 
 -- ---- the two tests
