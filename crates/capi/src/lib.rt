@@ -15,7 +15,8 @@ ghost use Rattle.model.specs.Formula.{C, Y, X};
 ghost use Rattle.model.specs.Run.{ran, reply, leaves};
 ghost use Rattle.model.specs.Solve.{solving, replied, leftIn};
 ghost use Rattle.model.specs.File.{writes, reads, bytesAfter, wordsAfter};
-ghost use Rattle.model.specs.Boundary.{labelNumber, placeNumber, checkNumber, compiledNumber, compiledNumbers, filedNumber, filedNumbers, replyNumber, replyNumbers};
+ghost use Rattle.model.specs.Boundary.{labelNumber, placeNumber, checkNumber};
+ghost use Rattle.model.specs.Boundary.{compiledNumber, compiledNumbers, filedNumber, filedNumbers, replyNumber, replyNumbers};
 
 // The label of (i, j) in a table of order n; 0 if any of the three is out of range.
 #[no_mangle]
@@ -95,11 +96,16 @@ pub extern "C" fn crout_run(
     x: &mut [f64],
     out: &mut [u64; 3],
 ) -> u64
-    ensures answer { λ r. ⌜ r ≡ replyNumber (reply (ran (now (words .entry)) (now (a .entry)) (now (b .entry)) (length (now (c .entry))) (length (now (y .entry))) (length (now (x .entry))))) ⌝ }
-    ensures c { λ r. ⌜ now (c .exit) ≡ leaves (ran (now (words .entry)) (now (a .entry)) (now (b .entry)) (length (now (c .entry))) (length (now (y .entry))) (length (now (x .entry)))) C (now (c .entry)) ⌝ }
-    ensures y { λ r. ⌜ now (y .exit) ≡ leaves (ran (now (words .entry)) (now (a .entry)) (now (b .entry)) (length (now (c .entry))) (length (now (y .entry))) (length (now (x .entry)))) Y (now (y .entry)) ⌝ }
-    ensures x { λ r. ⌜ now (x .exit) ≡ leaves (ran (now (words .entry)) (now (a .entry)) (now (b .entry)) (length (now (c .entry))) (length (now (y .entry))) (length (now (x .entry)))) X (now (x .entry)) ⌝ }
-    ensures numbers { λ r. ⌜ now (out .exit) ≡ replyNumbers (reply (ran (now (words .entry)) (now (a .entry)) (now (b .entry)) (length (now (c .entry))) (length (now (y .entry))) (length (now (x .entry))))) ⌝ }
+    ensures answer { λ r. ⌜ r ≡ replyNumber (reply (ran (now (words .entry)) (now (a .entry)) (now (b .entry))
+        (length (now (c .entry))) (length (now (y .entry))) (length (now (x .entry))))) ⌝ }
+    ensures c { λ r. ⌜ now (c .exit) ≡ leaves (ran (now (words .entry)) (now (a .entry)) (now (b .entry))
+        (length (now (c .entry))) (length (now (y .entry))) (length (now (x .entry)))) C (now (c .entry)) ⌝ }
+    ensures y { λ r. ⌜ now (y .exit) ≡ leaves (ran (now (words .entry)) (now (a .entry)) (now (b .entry))
+        (length (now (c .entry))) (length (now (y .entry))) (length (now (x .entry)))) Y (now (y .entry)) ⌝ }
+    ensures x { λ r. ⌜ now (x .exit) ≡ leaves (ran (now (words .entry)) (now (a .entry)) (now (b .entry))
+        (length (now (c .entry))) (length (now (y .entry))) (length (now (x .entry)))) X (now (x .entry)) ⌝ }
+    ensures numbers { λ r. ⌜ now (out .exit) ≡ replyNumbers (reply (ran (now (words .entry)) (now (a .entry)) (now (b .entry))
+        (length (now (c .entry))) (length (now (y .entry))) (length (now (x .entry))))) ⌝ }
 {
     run_answer(runner::run(words, a, b, c, y, x), out)
 }
@@ -118,13 +124,18 @@ pub extern "C" fn crout_solve(
     x: &mut [f64],
     out: &mut [u64; 3],
 ) -> u64
-    ensures answer { λ r. ⌜ r ≡ replyNumber (replied n (now (plan .entry)) (now (a .entry)) (now (b .entry)) (length (now (work .entry))) (length (now (words .entry))) (length (now (c .entry))) (length (now (y .entry))) (length (now (x .entry)))) ⌝ }
+    ensures answer { λ r. ⌜ r ≡ replyNumber (replied n (now (plan .entry)) (now (a .entry)) (now (b .entry)) (length (now (work .entry)))
+        (length (now (words .entry))) (length (now (c .entry))) (length (now (y .entry))) (length (now (x .entry)))) ⌝ }
     ensures work { λ r. ⌜ now (work .exit) ≡ workAfter n (now (plan .entry)) (now (work .entry)) (length (now (words .entry))) ⌝ }
     ensures words { λ r. ⌜ now (words .exit) ≡ Compile·wordsAfter n (now (plan .entry)) (length (now (work .entry))) (now (words .entry)) ⌝ }
-    ensures c { λ r. ⌜ now (c .exit) ≡ leftIn (solving n (now (plan .entry)) (now (a .entry)) (now (b .entry)) (length (now (work .entry))) (length (now (words .entry))) (length (now (c .entry))) (length (now (y .entry))) (length (now (x .entry)))) C (now (c .entry)) ⌝ }
-    ensures y { λ r. ⌜ now (y .exit) ≡ leftIn (solving n (now (plan .entry)) (now (a .entry)) (now (b .entry)) (length (now (work .entry))) (length (now (words .entry))) (length (now (c .entry))) (length (now (y .entry))) (length (now (x .entry)))) Y (now (y .entry)) ⌝ }
-    ensures x { λ r. ⌜ now (x .exit) ≡ leftIn (solving n (now (plan .entry)) (now (a .entry)) (now (b .entry)) (length (now (work .entry))) (length (now (words .entry))) (length (now (c .entry))) (length (now (y .entry))) (length (now (x .entry)))) X (now (x .entry)) ⌝ }
-    ensures numbers { λ r. ⌜ now (out .exit) ≡ replyNumbers (replied n (now (plan .entry)) (now (a .entry)) (now (b .entry)) (length (now (work .entry))) (length (now (words .entry))) (length (now (c .entry))) (length (now (y .entry))) (length (now (x .entry)))) ⌝ }
+    ensures c { λ r. ⌜ now (c .exit) ≡ leftIn (solving n (now (plan .entry)) (now (a .entry)) (now (b .entry)) (length (now (work .entry)))
+        (length (now (words .entry))) (length (now (c .entry))) (length (now (y .entry))) (length (now (x .entry)))) C (now (c .entry)) ⌝ }
+    ensures y { λ r. ⌜ now (y .exit) ≡ leftIn (solving n (now (plan .entry)) (now (a .entry)) (now (b .entry)) (length (now (work .entry)))
+        (length (now (words .entry))) (length (now (c .entry))) (length (now (y .entry))) (length (now (x .entry)))) Y (now (y .entry)) ⌝ }
+    ensures x { λ r. ⌜ now (x .exit) ≡ leftIn (solving n (now (plan .entry)) (now (a .entry)) (now (b .entry)) (length (now (work .entry)))
+        (length (now (words .entry))) (length (now (c .entry))) (length (now (y .entry))) (length (now (x .entry)))) X (now (x .entry)) ⌝ }
+    ensures numbers { λ r. ⌜ now (out .exit) ≡ replyNumbers (replied n (now (plan .entry)) (now (a .entry)) (now (b .entry)) (length (now (work .entry)))
+        (length (now (words .entry))) (length (now (c .entry))) (length (now (y .entry))) (length (now (x .entry)))) ⌝ }
 {
     run_answer(solver::solve(n, plan, a, b, work, words, c, y, x), out)
 }

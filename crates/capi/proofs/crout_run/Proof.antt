@@ -7,13 +7,19 @@ use Rattle.capi.proofs.Numbers.{carried, reply-fits}
 use Rattle.capi.proofs.crout_run.Statement.{statement}
 use Rattle.capi.proofs.crout_run.Tie as tie
 
+-- Places of the code: after the run, with the entry before it.
+abbrev called : tie.After-run-answer-arg → tie.After-run
+called c = c .before .before .before .before .before .before .before
+
+abbrev entry : tie.After-run → tie.Start
+entry c = c .before .before .before .before .before .before .before .before .before .before
+
 run-requires : tie.Need-run-requires
 run-requires c κs = search needs
 
 run-answer-requires : tie.Need-run-answer-requires
 run-answer-requires c κs =
-    reply-fits (c .before .before .before .before .before .before .before .run .ensures .0) (ran-small _ _ _ _ _ _)
-    (let start = c .before .before .before .before .before .before .before .before .before .before .before .before .before .before .before .before .before in omega (arith, start .good))
+    reply-fits (called c .run .ensures .0) (ran-small _ _ _ _ _ _) (omega (arith, entry (called c) .good))
 
 same-length : tie.Need-same-length
 same-length c = search needs
@@ -26,7 +32,7 @@ same-length-3 c = search needs
 
 returns : tie.Need-returns
 returns c =
-    let call = c .before .before .before .before .before .before .before .before .run in
+    let call = called (c .before) .run in
     let numbers = carried replyNumber replyNumbers (call .ensures .0) (c .run-answer .ensures) in
     (numbers .0, (call .ensures .1 .0, (call .ensures .1 .1 .0, (call .ensures .1 .1 .1, numbers .1))))
 

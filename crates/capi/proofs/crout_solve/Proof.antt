@@ -7,13 +7,19 @@ use Rattle.capi.proofs.Numbers.{carried, reply-fits}
 use Rattle.capi.proofs.crout_solve.Statement.{statement}
 use Rattle.capi.proofs.crout_solve.Tie as tie
 
+-- Places of the code: after solving, with the entry before it.
+abbrev called : tie.After-run-answer-arg → tie.After-solve
+called c = c .before .before .before .before .before .before .before .before .before .before .before
+
+abbrev entry : tie.After-solve → tie.Start
+entry c = c .before .before .before .before .before .before .before .before .before .before .before .before .before .before
+
 solve-requires : tie.Need-solve-requires
 solve-requires c κs = search needs
 
 run-answer-requires : tie.Need-run-answer-requires
 run-answer-requires c κs =
-    reply-fits (c .before .before .before .before .before .before .before .before .before .before .before .solve .ensures .1 .0) (replied-small _ _ _ _ _ _ _ _ _)
-    (let start = c .before .before .before .before .before .before .before .before .before .before .before .before .before .before .before .before .before .before .before .before .before .before .before .before .before in omega (arith, start .good))
+    reply-fits (called c .solve .ensures .1 .0) (replied-small _ _ _ _ _ _ _ _ _) (omega (arith, entry (called c) .good))
 
 same-length : tie.Need-same-length
 same-length c = search needs
@@ -32,7 +38,7 @@ same-length-5 c = search needs
 
 returns : tie.Need-returns
 returns c =
-    let call = c .before .before .before .before .before .before .before .before .before .before .before .before .solve in
+    let call = called (c .before) .solve in
     let left = call .ensures .1 .1 in
     let numbers = carried replyNumber replyNumbers (call .ensures .1 .0) (c .run-answer .ensures) in
     (numbers .0, (left .0, (left .1 .0, (left .1 .1 .0, (left .1 .1 .1 .0, (left .1 .1 .1 .1, numbers .1))))))
