@@ -29,7 +29,8 @@ module _ {N : ℕ} {L : Plan} {A B : List Float} (accepted : Accepted N L A B) w
   unfolding compiled
   runs =
       ran-fine (compiled N L) A B (slots N L) N N (program-fine N L (given .order) (given .labels) pivots)
-      ∙ gated-open _ _ _ _ _ _ (lengths-right N (length L) (slots N L) _ _ _ _ _ (given .lengthA) (given .lengthB) refl refl refl) (given .finiteA) (given .finiteB)
+      ∙ gated-open _ _ _ _ _ _ (lengths-right N (length L) (slots N L) _ _ _ _ _ (given .lengthA) (given .lengthB) refl refl refl)
+      (given .finiteA) (given .finiteB)
 
   -- the run's ending is that of the reduced formulas, with the plan's counts
   follows : seen (ran (compiled N L) A B (slots N L) N N) ≡ shown (productCount N L) (N + above N L) (squeezed N L (dense N L A B))

@@ -112,7 +112,8 @@ quotient-nought (nonzero {s} {m} {e} h) z =
 last-three : (a b c d : Bool) → T (a && b && c && d) → T b × T c × T d
 last-three true true true true t = (tt, tt, tt)
 
-pub bounds : (f : Format) (s : Bool) (m : ℕ) (e : ℤ) → T (fits f (fin s (suc m) e)) → (suc m < 2 ^ prec f) × (down e ≤ 2 ^ low f) × (suc m * up e < 2 ^ suc (emax f) * down e)
+pub bounds : (f : Format) (s : Bool) (m : ℕ) (e : ℤ) → T (fits f (fin s (suc m) e))
+    → (suc m < 2 ^ prec f) × (down e ≤ 2 ^ low f) × (suc m * up e < 2 ^ suc (emax f) * down e)
 unfolding fits
 bounds f s m e h =
     let t = last-three (eqb (suc m % 2) 1) (ltb (suc m) (2 ^ prec f)) (leb (down e) (2 ^ low f)) (ltb (suc m * up e) (2 ^ suc (emax f) * down e)) h in
@@ -130,7 +131,8 @@ same-value : (f : Format) (x : Float) (s : Bool) (m : ℕ) (e : ℤ) → T (fits
 unfolding toBits
 same-value f (fin t n d) s m e p q v =
     let l = 2 ^ low f in
-    let size : n * up d * l / down d ≡ m * up e * l / down e = div-same (n * up d * l) (down d) (m * up e * l) (down e) (down-pos d) (down-pos e) (omega (arith, ap (λ (x : ℕ). l * x) (v .1))) in
+    let size : n * up d * l / down d ≡ m * up e * l / down e =
+    div-same (n * up d * l) (down d) (m * up e * l) (down e) (down-pos d) (down-pos e) (omega (arith, ap (λ (x : ℕ). l * x) (v .1))) in
     let bits : toBits f (fin t n d) ≡ toBits f (fin s m e) = cc in
     sym (ofBits-toBits f (fin t n d) p) ∙ ap (ofBits f) bits ∙ ofBits-toBits f (fin s m e) q
 
@@ -139,7 +141,8 @@ round-held f s m e h =
     let (digits, smallest, largest) = bounds f s m e h in
     let (j, units) = in-units (low f) e smallest in
     let exact : suc m * up e * 2 ^ low f ≡ suc m * 2 ^ j * down e = omega (arith, ap (λ (x : ℕ). suc m * x) units) in
-    let small : suc m * 2 ^ j < 2 ^ (low f + suc (emax f)) = rw pow-add (lt-of-mul-lt-mul-right (down e) (omega (arith, mul-lt-mul-of-pos-right largest (pow-pos (low f))))) in
+    let small : suc m * 2 ^ j < 2 ^ (low f + suc (emax f)) =
+    rw pow-add (lt-of-mul-lt-mul-right (down e) (omega (arith, mul-lt-mul-of-pos-right largest (pow-pos (low f))))) in
     same-value f (round f s (suc m * up e) (down e)) s (suc m) e (round-fits f s (suc m * up e) (down e)) h
     (round-exact f s (suc m * up e) (down e) (suc m) j (down-pos e) digits small exact)
 

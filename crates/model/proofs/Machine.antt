@@ -132,7 +132,8 @@ module _ (A B : List Float) where
   run-opening X start k e z rs = rw e
 
   -- the records of one formula work its value out
-  run-formula : (f : Formula) → Started f → (z : State) (p q : ℕ) (rs : List Record) → z .products + length (f .products) ≡ p → z .quotients + cond (ltb 0 (f .divisor)) 1 0 ≡ q
+  run-formula : (f : Formula) → Started f → (z : State) (p q : ℕ) (rs : List Record)
+      → z .products + length (f .products) ≡ p → z .quotients + cond (ltb 0 (f .divisor)) 1 0 ≡ q
       → run z (recordsOf f ++ rs) ≡ resumed f (value A B (z .tables) f) (λ v. run (closing (midway f (z .tables) p q v)) rs)
   unfolding recordsOf value Started resumed
   run-formula f started z p q rs products quotients = simp append-assoc
@@ -142,7 +143,8 @@ module _ (A B : List Float) where
       ∙ run-closing f (z .tables) _ (f .pivot) p q rs)
 
   -- a row of formulas goes on after its first as a run does
-  resumed-worked : (p q : ℕ) (t : Tables) (f : Formula) (fs : List Formula) (on : Float → Seen) → ((v : Float) → on v ≡ shown p q (worked A B (closed t (f .table) v) fs))
+  resumed-worked : (p q : ℕ) (t : Tables) (f : Formula) (fs : List Formula) (on : Float → Seen)
+      → ((v : Float) → on v ≡ shown p q (worked A B (closed t (f .table) v) fs))
       → resumed f (value A B t f) on ≡ shown p q (worked A B t (f ∷ fs))
   unfolding worked shown resumed
   resumed-worked p q t f fs on same = by (value A B t f) refl
@@ -158,11 +160,13 @@ module _ (A B : List Float) where
   run-formulas [] started z p q products quotients = ap₂ (λ m n. whole (z .tables) m n) (omega arith) (omega arith)
   run-formulas (f ∷ fs) started z p q products quotients =
       run-formula f (started f (List·Memᴰ·head refl)) z _ _ (joined (map recordsOf fs)) refl refl
-      ∙ resumed-worked p q (z .tables) f fs _ (λ v. run-formulas fs (λ g m. started g (List·Memᴰ·tail m)) _ p q (omega (arith, productsOf-cons f fs)) (omega (arith, quotientsOf-cons f fs)))
+      ∙ resumed-worked p q (z .tables) f fs _ (λ v. run-formulas fs (λ g m. started g (List·Memᴰ·tail m)) _ p q
+      (omega (arith, productsOf-cons f fs)) (omega (arith, quotientsOf-cons f fs)))
 
 -- The run of the records of formulas, from any state and any index on, ends as the formulas worked out do, and has counted their products and quotients.
 pub machine : (A B : List Float) (fs : List Formula) → Each Started fs → (z : State) (k : ℕ)
-    → seen (follow A B z (linksFrom k (joined (map recordsOf fs)))) ≡ shown (z .products + productsOf fs) (z .quotients + quotientsOf fs) (worked A B (z .tables) fs)
+    → seen (follow A B z (linksFrom k (joined (map recordsOf fs))))
+    ≡ shown (z .products + productsOf fs) (z .quotients + quotientsOf fs) (worked A B (z .tables) fs)
 machine A B fs started z k = seen-follow A B z k (joined (map recordsOf fs)) ∙ run-formulas A B fs started z _ _ refl refl
 
 -- what `machine` asks, for the formulas that the compiler keeps

@@ -73,7 +73,8 @@ onward-same N L (number v) tb k k′ rest rest′ ends go = go v refl
 onward-same N L overflow tb k k′ rest rest′ ends go = ends 16
 onward-same N L zeroDivisor tb k k′ rest rest′ ends go = ends 17
 
-worked-solved : {f : Formula} {tb : Table} {k : ℕ} → Targets f tb k → (P : Type 0) (A B : List Float) (t t′ : Tables) (fs : List Formula) → worked A B t (f ∷ fs) ≡ solved t′
+worked-solved : {f : Formula} {tb : Table} {k : ℕ} → Targets f tb k → (P : Type 0) (A B : List Float) (t t′ : Tables) (fs : List Formula)
+    → worked A B t (f ∷ fs) ≡ solved t′
     → ((v : Float) → value A B t f ≡ number v → worked A B (closed t tb v) fs ≡ solved t′ → P) → P
 worked-solved to P A B t t′ fs e go = onward-solved P _ _ _ _ t′ (sym (worked-cons to A B t fs) ∙ e) go
 
@@ -81,11 +82,13 @@ module _ {N : ℕ} {L : Plan} {A B : List Float} (given : Given N L A B) where
   reads : Reads A B
   reads = record { a = reads-good A (given .valuesA) (given .finiteA); b = reads-good B (given .valuesB) (given .finiteB) }
 
-  place-sound : {n : ℕ} {t : Tables} (i j : ℕ) → Inside N i j → suc n ≡ label N i j → Sound N L n t → (v : Float) → value A B t (denseOf N L i j) ≡ number v → Sound N L (suc n) (closed t C v)
+  place-sound : {n : ℕ} {t : Tables} (i j : ℕ) → Inside N i j → suc n ≡ label N i j → Sound N L n t
+      → (v : Float) → value A B t (denseOf N L i j) ≡ number v → Sound N L (suc n) (closed t C v)
   place-sound i j inside turn s v e = sound-c s i j inside turn (place-entered reads s i j inside (sym turn) v e)
 
   -- dense Crout's tables stay sound to the end
-  pub sound-end : {n y x : ℕ} {ds rs : List Formula} {t t′ : Tables} → Beside N L n y x ds rs → Sound N L n t → worked A B t ds ≡ solved t′ → Sound N L (N * N) t′
+  pub sound-end : {n y x : ℕ} {ds rs : List Formula} {t t′ : Tables}
+      → Beside N L n y x ds rs → Sound N L n t → worked A B t ds ≡ solved t′ → Sound N L (N * N) t′
   sound-end {t = t} {t′} done s e = let same : t ≡ t′ = cc (worked-nil A B t) in subst (Sound N L (N * N)) same s
   sound-end {t = t} {t′} (on-both i j inside turn h rest) s e =
       worked-solved (place-targets N L (label N) _ i j) _ A B t t′ _ e (λ v q r. sound-end rest (place-sound i j inside turn s v q) r)
@@ -115,11 +118,13 @@ module _ {N : ℕ} {L : Plan} {A B : List Float} (given : Given N L A B) where
         omega arith
 
     -- from any point on, the reduced formulas end as dense Crout does
-    pub reduction : {n y x : ℕ} {ds rs : List Formula} {t : Tables} → Beside N L n y x ds rs → Sound N L n t → worked A B (shrunk N L t) rs ≡ squeezed N L (worked A B t ds)
+    pub reduction : {n y x : ℕ} {ds rs : List Formula} {t : Tables} → Beside N L n y x ds rs → Sound N L n t
+        → worked A B (shrunk N L t) rs ≡ squeezed N L (worked A B t ds)
     unfolding squeezed
     reduction {t = t} done s = rw (worked-nil A B t, worked-nil A B (shrunk N L t))
     reduction {t = t} (on-both i j inside turn h rest) s =
-        both (place-targets N L (label N) _ i j) (place-targets N L (slot N L) _ i j) t (shrunk N L t) _ _ (place-same reads s (pivot-held N L pivots) i j inside)
+        both (place-targets N L (label N) _ i j) (place-targets N L (slot N L) _ i j) t (shrunk N L t) _ _
+        (place-same reads s (pivot-held N L pivots) i j inside)
         (λ r. rw (place-of-label N i j inside))
         (λ v q. rw (← shrunk-held N L i j inside t v (ap suc (s .count) ∙ turn) h) (reduction rest (place-sound i j inside turn s v q)))
     reduction {t = t} (left-out i j inside turn h rest) s =
@@ -127,11 +132,13 @@ module _ {N : ℕ} {L : Plan} {A B : List Float} (given : Given N L A B) where
         rw (worked-cons (place-targets N L (label N) _ i j) A B t _, e, ← shrunk-unheld N L i j inside t plusZero (ap suc (s .count) ∙ turn) h)
         (reduction rest (place-sound i j inside turn s plusZero e))
     reduction {t = t} (into-y h p rest) s =
-        both (forward-targets N L (label N) _ _) (forward-targets N L (slot N L) _ _) t (shrunk N L t) _ _ (forward-same reads s (pivot-held N L pivots) _ (omega arith) h)
+        both (forward-targets N L (label N) _ _) (forward-targets N L (slot N L) _ _) t (shrunk N L t) _ _
+        (forward-same reads s (pivot-held N L pivots) _ (omega arith) h)
         (λ r. refl)
         (λ v q. rw (← shrunk-y N L t v) (reduction rest (sound-y s (number-good reads s _ q))))
     reduction {t = t} (into-x i l p rest) s =
-        both (backward-targets N L (label N) _ i) (backward-targets N L (slot N L) _ i) t (shrunk N L t) _ _ (backward-same reads s (pivot-held N L pivots) i l (omega arith))
+        both (backward-targets N L (label N) _ i) (backward-targets N L (slot N L) _ i) t (shrunk N L t) _ _
+        (backward-same reads s (pivot-held N L pivots) i l (omega arith))
         (λ r. refl)
         (λ v q. rw (← shrunk-x N L t v) (reduction rest (sound-x s (number-good reads s _ q))))
 

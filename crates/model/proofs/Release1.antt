@@ -146,7 +146,8 @@ chain-after zero W k = by (eqb (nextOf W k) 0)
     by false = refl
 chain-after (suc d) W k = by (eqb (nextOf W k) 0) refl (follows W k (nextOf W k)) refl (chain-after d W (nextOf W k))
   where
-    by : (none : Bool) → eqb (nextOf W k) 0 ≡ none → (leads : Bool) → follows W k (nextOf W k) ≡ leads → chainNow (R.chainAfter d W (nextOf W k)) ≡ chainAfter d W (nextOf W k)
+    by : (none : Bool) → eqb (nextOf W k) 0 ≡ none → (leads : Bool) → follows W k (nextOf W k) ≡ leads
+        → chainNow (R.chainAfter d W (nextOf W k)) ≡ chainAfter d W (nextOf W k)
         → chainNow (R.chainAfter (suc d) W k) ≡ chainAfter (suc d) W k
     by true e leads f rest = rw (R.chainAfter, chainAfter, e)
     by false e true f rest = rw (R.chainAfter, chainAfter, e, f, chainNow, rest)
@@ -254,7 +255,8 @@ module _ (N n s : ℕ) where
 -- the check is release 1's
 pub check-frozen : (W : List ℕ) → verdictNow (R.check W) ≡ check W
 unfolding R.check check
-check-frozen W = required-frozen verdictNow 7 0 _ refl (required-frozen verdictNow 8 0 _ refl (rw (← chain-frozen W) (links-frozen (word W 0) (word W 1) (word W 2) _ (R.chain W))))
+check-frozen W =
+    required-frozen verdictNow 7 0 _ refl (required-frozen verdictNow 8 0 _ refl (rw (← chain-frozen W) (links-frozen (word W 0) (word W 1) (word W 2) _ (R.chain W))))
 
 -- ---- the run
 
@@ -320,7 +322,8 @@ ran-frozen W A B lc ly lx = by (R.check W) ∙ ap (ranBy W A B lc ly lx) (check-
     values : R.Verdict → Outcome
     values v = outcomeNow (R.after v done)
 
-    by : (v : R.Verdict) → outcomeNow (R.after v (R.after (R.checkValues (R.word W 0) (R.word W 1) (R.word W 2) A B lc ly lx) done)) ≡ ranBy W A B lc ly lx (verdictNow v)
+    by : (v : R.Verdict)
+        → outcomeNow (R.after v (R.after (R.checkValues (R.word W 0) (R.word W 1) (R.word W 2) A B lc ly lx) done)) ≡ ranBy W A B lc ly lx (verdictNow v)
     by R.fine = rw (not-finite-frozen 1 A, not-finite-frozen 1 B)
         (required-frozen values 14 0 _ refl (required-frozen values 15 (notFinite 1 A) _ refl (required-frozen values 15 (notFinite 1 B) R.fine refl
         (rw (← chain-frozen W) (follow-frozen A B _ (R.chain W))))))

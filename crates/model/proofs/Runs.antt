@@ -21,7 +21,8 @@ module _ {S : Type 0} (lengths : S) (value : ℕ → S) where
   unfolding gate
   gated right a b done = gate right (eqb a 0) (eqb b 0) a b done
 
-  gate-same : (right p q : Bool) (a b : ℕ) (done done′ : S) → (right ≡ true → p ≡ true → q ≡ true → done ≡ done′) → gate right p q a b done ≡ gate right p q a b done′
+  gate-same : (right p q : Bool) (a b : ℕ) (done done′ : S) → (right ≡ true → p ≡ true → q ≡ true → done ≡ done′)
+      → gate right p q a b done ≡ gate right p q a b done′
   unfolding gate
   gate-same false p q a b done done′ same = refl
   gate-same true false q a b done done′ same = refl

@@ -86,7 +86,8 @@ links-small b N n s g [] whole ls e = step (complete N s g)
     step false = omega arith
 links-small b N n s g [] (broken k) ls e = omega arith
 links-small b N n s g (l ∷ ls) end (h, hs) e =
-    step (formed (kindOf (l .at .kind)) (l .at .p) (l .at .q)) (inOrder (kindOf (l .at .kind)) (g .target)) (inTurn N n s (kindOf (l .at .kind)) (l .at .p) (l .at .q) g)
+    step (formed (kindOf (l .at .kind)) (l .at .p) (l .at .q)) (inOrder (kindOf (l .at .kind)) (g .target))
+    (inTurn N n s (kindOf (l .at .kind)) (l .at .p) (l .at .q) g)
     (links-small b N n s (onward (kindOf (l .at .kind)) g) ls end hs e)
   where
     rest : Verdict
@@ -116,7 +117,8 @@ check-small W =
     rest = checkLinks (word W 0) (word W 1) (word W 2) begun (linked .links) (linked .end)
 
     step : (c h : Bool) → ChainUpTo (length W / 4) linked
-        → SmallVerdict (length W / 4) (elim c as (λ b. Verdict) [ false ↦ Check.refusal 7 0 | true ↦ elim h as (λ b. Verdict) [ false ↦ Check.refusal 8 0 | true ↦ rest ] ])
+        → SmallVerdict (length W / 4)
+        (elim c as (λ b. Verdict) [ false ↦ Check.refusal 7 0 | true ↦ elim h as (λ b. Verdict) [ false ↦ Check.refusal 8 0 | true ↦ rest ] ])
     step false h up = omega arith
     step true false up = omega arith
     step true true up = links-small (length W / 4) (word W 0) (word W 1) (word W 2) begun (linked .links) (linked .end) (up .0) (up .1)
@@ -235,7 +237,8 @@ follow-small : (b : ℕ) (A B : List Float) (z : State) (ls : List Link) → Lin
 unfolding follow reply
 follow-small b A B z [] up = tt
 follow-small b A B z (l ∷ ls) up =
-    go (step A B z (kindOf (l .at .kind)) (l .at .p) (l .at .q)) (step-small A B z (kindOf (l .at .kind)) (l .at .p) (l .at .q)) (λ y. follow-small b A B y ls (up .1))
+    go (step A B z (kindOf (l .at .kind)) (l .at .p) (l .at .q)) (step-small A B z (kindOf (l .at .kind)) (l .at .p) (l .at .q))
+    (λ y. follow-small b A B y ls (up .1))
   where
     go : (s : Stepped) → SmallStep s → ((y : State) → SmallReply b (reply (follow A B y ls)))
         → SmallReply b (reply (elim s as (λ s. Outcome) [ going y ↦ follow A B y ls | stop r ↦ stopped r (l .index) (z .table) (z .target) ]))
@@ -268,13 +271,15 @@ ran-small W A B c y x = rw (ran-is W A B c y x) (go (check W) (check-small W))
     go (Check.refusal r d) s = omega arith
     go fine s =
         gated-each (refusedBy 14 0) (refusedBy 15) (λ o. SmallReply (1 + length W + length A + length B) (reply o))
-        (lengthsRight (word W 0) (word W 1) (word W 2) (length A) (length B) c y x) (notFinite 1 A) (notFinite 1 B) (follow A B (fresh (word W 0)) (chain W .links)) (omega arith)
+        (lengthsRight (word W 0) (word W 1) (word W 2) (length A) (length B) c y x) (notFinite 1 A) (notFinite 1 B)
+        (follow A B (fresh (word W 0)) (chain W .links)) (omega arith)
         (omega (arith, not-finite-small 1 A)) (omega (arith, not-finite-small 1 B))
         (wider (reply (follow A B (fresh (word W 0)) (chain W .links))) (follow-small (length W / 4) A B (fresh (word W 0)) (chain W .links) up))
 
 -- ---- compiling and running
 
-pub replied-small : (N : ℕ) (L : Plan) (A B : List Float) (work words c y x : ℕ) → SmallReply (400000001 + length L + length A + length B) (replied N L A B work words c y x)
+pub replied-small : (N : ℕ) (L : Plan) (A B : List Float) (work words c y x : ℕ)
+    → SmallReply (400000001 + length L + length A + length B) (replied N L A B work words c y x)
 unfolding replied
 replied-small N L A B work words c y x = go (compiles N L work words) refl (compiles-small N L work words)
   where
@@ -284,7 +289,8 @@ replied-small N L A B work words c y x = go (compiles N L work words) refl (comp
     wider (refuses r d) k h s = omega arith
 
     go : (v : Compiled) → compiles N L work words ≡ v → SmallCompiled (100000000 + length L) v
-        → SmallReply (400000001 + length L + length A + length B) (elim v as (λ v. Reply) [ Compile.refusal r d ↦ refuses r d | written s p r ↦ reply (ran (compiled N L) A B c y x) ])
+        → SmallReply (400000001 + length L + length A + length B)
+        (elim v as (λ v. Reply) [ Compile.refusal r d ↦ refuses r d | written s p r ↦ reply (ran (compiled N L) A B c y x) ])
     go (Compile.refusal r d) e small = omega arith
     go (written s p r) e small =
         let k = compiles-success N L work words s p r e in

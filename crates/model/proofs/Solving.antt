@@ -42,7 +42,8 @@ module _ (N : ℕ) (L : Plan) (A B : List Float) (work words c y x : ℕ) where
   solvingBy : Compiled → Seen
   solvingBy answer = elim answer [
     | refusal r d ↦ early r d
-    | written s p r ↦ gated (early 14 0) (early 15) (lengthsRight N (length L) (slots N L) (length A) (length B) c y x) (notFinite 1 A) (notFinite 1 B) (compressed N L (dense N L A B))
+    | written s p r ↦ gated (early 14 0) (early 15) (lengthsRight N (length L) (slots N L) (length A) (length B) c y x)
+        (notFinite 1 A) (notFinite 1 B) (compressed N L (dense N L A B))
   ]
 
   solving-is : solving N L A B work words c y x ≡ solvingBy (compiles N L work words)
@@ -69,7 +70,8 @@ module _ (N : ℕ) (L : Plan) (A B : List Float) (work words c y x : ℕ) where
       } in
       ap seen (ran-fine (compiled N L) A B c y x (program-fine N L (k .order) (k .labels) (k .pivots)))
       ∙ gated-map seen (refusedBy 14 0) (refusedBy 15) right (notFinite 1 A) (notFinite 1 B) _
-      ∙ gated-same (early 14 0) (early 15) right (notFinite 1 A) (notFinite 1 B) _ _ (λ l fa fb. sym (ap seen (runs (accepts l fa fb))) ∙ agreement (accepts l fa fb))
+      ∙ gated-same (early 14 0) (early 15) right (notFinite 1 A) (notFinite 1 B) _ _
+      (λ l fa fb. sym (ap seen (runs (accepts l fa fb))) ∙ agreement (accepts l fa fb))
       ∙ sym (solving-is ∙ ap solvingBy e)
 
 -- ---- what `solve` answers and leaves
@@ -91,12 +93,14 @@ module _ (N : ℕ) (L : Plan) (A B : List Float) (work words : ℕ) (c y x : Lis
       record { tells = ap told (sym ends); replies = rw (replied, e); c-is = ap (λ s. leftIn s C c) (sym ends); y-is = ap (λ s. leftIn s Y y) (sym ends); x-is = ap (λ s. leftIn s X x) (sym ends) }
 
   -- after the run of the compiled program
-  pub ran-solves : (s p r : ℕ) → compiles N L work words ≡ written s p r → Values A → Values B → let o = ran (compiled N L) A B (length c) (length y) (length x) in
+  pub ran-solves : (s p r : ℕ) → compiles N L work words ≡ written s p r → Values A → Values B
+      → let o = ran (compiled N L) A B (length c) (length y) (length x) in
       Solves N L A B work words c y x (reply o) (leaves o C c) (leaves o Y y) (leaves o X x)
   unfolding replied
   ran-solves s p r e a b =
       let ends = solving-runs N L A B work words (length c) (length y) (length x) s p r e a b in
-      let left : (t : Table) (vs : List Float) → leaves (ran (compiled N L) A B (length c) (length y) (length x)) t vs ≡ leftIn (solving N L A B work words (length c) (length y) (length x)) t vs =
+      let left : (t : Table) (vs : List Float)
+      → leaves (ran (compiled N L) A B (length c) (length y) (length x)) t vs ≡ leftIn (solving N L A B work words (length c) (length y) (length x)) t vs =
       λ t vs. leaves-left _ t vs ∙ ap (λ s. leftIn s t vs) ends in
       record { tells = tells-told _ ∙ ap told ends; replies = rw (replied, e); c-is = left C c; y-is = left Y y; x-is = left X x }
 

@@ -130,7 +130,8 @@ less-vanishing overflow a b g e = refl
 less-vanishing zeroDivisor a b g e = refl
 
 -- leaving out products that vanish changes nothing
-lessAll-same : (t u : Tables) (tb : Table) (f g : ℕ → ℕ × ℕ) (p : ℕ → Bool) (hs : List ℕ) → Each (λ h. Alike t u tb (f h) (g h) (p h)) hs → (a : Answer) → GoodAnswer a
+lessAll-same : (t u : Tables) (tb : Table) (f g : ℕ → ℕ × ℕ) (p : ℕ → Bool) (hs : List ℕ)
+    → Each (λ h. Alike t u tb (f h) (g h) (p h)) hs → (a : Answer) → GoodAnswer a
     → lessAll u tb a (map g (kept p hs)) ≡ lessAll t tb a (map f (kept (λ h. true) hs))
 unfolding lessAll kept
 lessAll-same t u tb f g p [] each a good = refl
@@ -139,9 +140,13 @@ lessAll-same t u tb f g p (h ∷ hs) each a good = step (p h) (each h (List·Mem
     after : Float → Float → Answer
     after x y = next a (λ v. less v x y)
 
-    step : (b : Bool) → Alike t u tb (f h) (g h) b → ((a : Answer) → GoodAnswer a → lessAll u tb a (map g (kept p hs)) ≡ lessAll t tb a (map f (kept (λ h. true) hs)))
-        → lessAll u tb a (map g (cond b (h ∷ kept p hs) (kept p hs))) ≡ lessAll t tb (after (entry t C (f h .0)) (entry t tb (f h .1))) (map f (kept (λ h. true) hs))
-    step true (same i j) rest = ap₂ (λ x y. lessAll u tb (after x y) (map g (kept p hs))) i j ∙ rest _ (next-good a _ (λ v. less-good v (entry t C (f h .0)) (entry t tb (f h .1))))
+    step : (b : Bool) → Alike t u tb (f h) (g h) b
+        → ((a : Answer) → GoodAnswer a → lessAll u tb a (map g (kept p hs)) ≡ lessAll t tb a (map f (kept (λ h. true) hs)))
+        → lessAll u tb a (map g (cond b (h ∷ kept p hs) (kept p hs)))
+        ≡ lessAll t tb (after (entry t C (f h .0)) (entry t tb (f h .1))) (map f (kept (λ h. true) hs))
+    step true (same i j) rest =
+        ap₂ (λ x y. lessAll u tb (after x y) (map g (kept p hs))) i j
+        ∙ rest _ (next-good a _ (λ v. less-good v (entry t C (f h .0)) (entry t tb (f h .1))))
     step false (vanishing e) rest = rest a good ∙ ap (λ b. lessAll t tb b (map f (kept (λ h. true) hs))) (sym (less-vanishing a _ _ good e))
 
 -- ---- dense Crout's tables while they are worked out
@@ -172,7 +177,8 @@ sound-nothing N L = record {
   pivot = λ m low high h. absurd (omega (arith, label-range N m m (omega arith)));
 }
 
-pub sound-c : {N n : ℕ} {L : Plan} {t : Tables} {v : Float} → Sound N L n t → (i j : ℕ) → Inside N i j → suc n ≡ label N i j → Entered N L i j v → Sound N L (suc n) (closed t C v)
+pub sound-c : {N n : ℕ} {L : Plan} {t : Tables} {v : Float} → Sound N L n t → (i j : ℕ) → Inside N i j → suc n ≡ label N i j
+    → Entered N L i j v → Sound N L (suc n) (closed t C v)
 unfolding entry closed
 sound-c {N} {n} {L} {t} {v} sound i j inside turn entered = record {
   count = rw length-append (omega arith);
@@ -181,7 +187,8 @@ sound-c {N} {n} {L} {t} {v} sound i j inside turn entered = record {
   good-x = sound .good-x;
   unheld = λ a b there e. rw getD-more (either (λ w. w ≡ plusZero) (last (label N a b)) v (entry t C (label N a b))
       (λ q. let (p, r) = here a b there q in entered .unheld (rw (p, r) e)) (λ q. sound .unheld a b there e));
-  pivot = λ m low high h. let there : Inside N m m = omega arith in rw getD-more (either (λ w. isZero w ≡ false) (last (label N m m)) v (entry t C (label N m m))
+  pivot = λ m low high h. let there : Inside N m m = omega arith in
+      rw getD-more (either (λ w. isZero w ≡ false) (last (label N m m)) v (entry t C (label N m m))
       (λ q. let (p, r) = here m m there q in entered .pivot (p ∙ sym r)) (λ q. sound .pivot m low high (earlier m there h q)));
 }
   where
@@ -238,7 +245,8 @@ module _ {N n : ℕ} {L : Plan} {t : Tables} (sound : Sound N L n t) where
       (rising-each _ (λ h. h) 1 (m - 1) (λ h low high. alike-pair i h j (omega arith) (omega arith) (held N L i h) (held N L h j) refl refl)) a good
 
   singles-same : (tb : Table) (i : ℕ) (hs : List ℕ) → ((h : ℕ) → entry (shrunk N L t) tb h ≡ entry t tb h) → Each (Inside N i) hs → (a : Answer) → GoodAnswer a
-      → lessAll (shrunk N L t) tb a (map (λ h. (slot N L i h, h)) (kept (λ h. held N L i h) hs)) ≡ lessAll t tb a (map (λ h. (label N i h, h)) (kept (λ h. true) hs))
+      → lessAll (shrunk N L t) tb a (map (λ h. (slot N L i h, h)) (kept (λ h. held N L i h) hs))
+      ≡ lessAll t tb a (map (λ h. (label N i h, h)) (kept (λ h. true) hs))
   singles-same tb i hs e inside a good = lessAll-same t (shrunk N L t) tb _ _ _ hs (λ h m. alike-single tb i h (inside h m) (e h) (held N L i h) refl) a good
 
   over-same : (m : ℕ) → Inside N m m → held N L m m ≡ true → (a : Answer) → over (shrunk N L t) (slot N L m m) a ≡ over t (label N m m) a
@@ -250,7 +258,8 @@ module _ {N n : ℕ} {L : Plan} {t : Tables} (sound : Sound N L n t) where
   inner-none : (i j m : ℕ) → m ≤ i → m ≤ j → held N L i j ≡ false → inner N L (slot N L) (held N L) i j m ≡ []
   unfolding inner
   inner-none i j m p q e =
-      ap (map (λ h. (slot N L i h, slot N L h j))) (kept-none _ _ (rising-each _ (λ h. h) 1 (m - 1) (λ h low high. not-held N L i j e .1 h low (omega arith) (omega arith))))
+      ap (map (λ h. (slot N L i h, slot N L h j)))
+      (kept-none _ _ (rising-each _ (λ h. h) 1 (m - 1) (λ h low high. not-held N L i j e .1 h low (omega arith) (omega arith))))
 
   inner-nought : (i j m : ℕ) → Inside N i j → m ≤ i → m ≤ j → held N L i j ≡ false
       → lessAll t C (number plusZero) (inner N L (label N) (λ i j. true) i j m) ≡ number plusZero
@@ -280,11 +289,13 @@ module _ {N n : ℕ} {L : Plan} {A B : List Float} {t : Tables} (reads : Reads A
   unfolding starting
   unheld-less i j m inside p q e = rw (not-held N L i j e .0) (inner-nought sound i j m inside p q e)
 
-  unheld-lower : (i m : ℕ) → Inside N i m → m ≤ i → held N L i m ≡ false → value A B t (lower N L (label N) (λ i j. true) i m) ≡ cond (eqb i m) zeroDivisor (number plusZero)
+  unheld-lower : (i m : ℕ) → Inside N i m → m ≤ i → held N L i m ≡ false
+      → value A B t (lower N L (label N) (λ i j. true) i m) ≡ cond (eqb i m) zeroDivisor (number plusZero)
   unfolding value lower over
   unheld-lower i m inside h e = rw (unheld-less i m m inside h (omega arith) e) (tested-nought (eqb i m))
 
-  unheld-upper : (m j : ℕ) → Inside N m j → m < j → label N m j ≡ suc n → held N L m j ≡ false → value A B t (upper N L (label N) (λ i j. true) m j) ≡ number plusZero
+  unheld-upper : (m j : ℕ) → Inside N m j → m < j → label N m j ≡ suc n → held N L m j ≡ false
+      → value A B t (upper N L (label N) (λ i j. true) m j) ≡ number plusZero
   unfolding value upper tested next
   unheld-upper m j inside h turn e =
       let first = label-range N m m (omega arith) .0 in
@@ -292,7 +303,8 @@ module _ {N n : ℕ} {L : Plan} {A B : List Float} {t : Tables} (reads : Reads A
       (quotient-nought (entry-good sound C _) (sound .pivot m (omega arith) (omega arith) (omega (arith, label-in-row N m j (omega arith) (omega arith) h))))
 
   -- a place that isn't held gets +0, or is refused as a pivot
-  pub unheld-value : (i j : ℕ) → Inside N i j → label N i j ≡ suc n → held N L i j ≡ false → value A B t (denseOf N L i j) ≡ cond (eqb i j) zeroDivisor (number plusZero)
+  pub unheld-value : (i j : ℕ) → Inside N i j → label N i j ≡ suc n → held N L i j ≡ false
+      → value A B t (denseOf N L i j) ≡ cond (eqb i j) zeroDivisor (number plusZero)
   unheld-value i j inside turn e = elim (decLe j i) [
     | yes h ↦ rw (formula-lower N L (label N) _ i j h) (unheld-lower i j inside h e)
     | no h ↦ let g : i < j = omega arith in rw (formula-upper N L (label N) _ i j g, ne-eqb i j (λ p. omega arith)) (unheld-upper i j inside g turn e)
@@ -316,11 +328,13 @@ module _ {N n : ℕ} {L : Plan} {A B : List Float} {t : Tables} (reads : Reads A
 
   -- where pivots are held, both sides have the same values
   module _ (pivots : (m : ℕ) → 1 ≤ m → m ≤ N → held N L m m ≡ true) where
-    lower-same : (i m : ℕ) → Inside N i m → m ≤ i → value A B (shrunk N L t) (lower N L (slot N L) (held N L) i m) ≡ value A B t (lower N L (label N) (λ i j. true) i m)
+    lower-same : (i m : ℕ) → Inside N i m → m ≤ i
+        → value A B (shrunk N L t) (lower N L (slot N L) (held N L) i m) ≡ value A B t (lower N L (label N) (λ i j. true) i m)
     unfolding value lower over starting
     lower-same i m inside h = ap (tested (eqb i m)) (inner-same sound i m m inside h (omega arith) _ (starting-good C (position L (label N i m))))
 
-    upper-same : (m j : ℕ) → Inside N m j → m < j → value A B (shrunk N L t) (upper N L (slot N L) (held N L) m j) ≡ value A B t (upper N L (label N) (λ i j. true) m j)
+    upper-same : (m j : ℕ) → Inside N m j → m < j
+        → value A B (shrunk N L t) (upper N L (slot N L) (held N L) m j) ≡ value A B t (upper N L (label N) (λ i j. true) m j)
     unfolding value upper tested starting
     upper-same m j inside h = over-same sound m (omega arith) (pivots m (omega arith) (omega arith)) _
         ∙ ap (over t (label N m m)) (inner-same sound m j m inside (omega arith) (omega arith) _ (starting-good C (position L (label N m j))))
@@ -331,11 +345,13 @@ module _ {N n : ℕ} {L : Plan} {A B : List Float} {t : Tables} (reads : Reads A
       | no h ↦ let g : i < j = omega arith in rw (formula-upper N L (slot N L) _ i j g, formula-upper N L (label N) _ i j g) (upper-same i j inside g)
     ]
 
-    pub forward-same : (m : ℕ) → 1 ≤ m → m ≤ N → value A B (shrunk N L t) (forward N L (slot N L) (held N L) m) ≡ value A B t (forward N L (label N) (λ i j. true) m)
+    pub forward-same : (m : ℕ) → 1 ≤ m → m ≤ N
+        → value A B (shrunk N L t) (forward N L (slot N L) (held N L) m) ≡ value A B t (forward N L (label N) (λ i j. true) m)
     unfolding value forward tested starting shrunk entry
     forward-same m low high = over-same sound m (omega arith) (pivots m low high) _
         ∙ ap (over t (label N m m)) (singles-same sound Y m _ (λ h. refl) (rising-each _ (λ h. h) 1 (m - 1) (λ h l r. omega arith)) _ (starting-good Y m))
 
-    pub backward-same : (i : ℕ) → 1 ≤ i → i ≤ N → value A B (shrunk N L t) (backward N L (slot N L) (held N L) i) ≡ value A B t (backward N L (label N) (λ i j. true) i)
+    pub backward-same : (i : ℕ) → 1 ≤ i → i ≤ N
+        → value A B (shrunk N L t) (backward N L (slot N L) (held N L) i) ≡ value A B t (backward N L (label N) (λ i j. true) i)
     unfolding value backward tested over starting shrunk entry
     backward-same i low high = singles-same sound X i _ (λ h. refl) (falling-each _ _ N (N - i) (λ h l r. omega arith)) _ (starting-good X i)
