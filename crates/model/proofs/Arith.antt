@@ -1,4 +1,5 @@
--- The laws of one float operation, for every finite value that binary64 holds and that isn't -0: what +0 does to it, and that every number answered is such a value again. Everything above uses these laws and never `round`.
+-- The laws of one float operation, for every finite value that binary64 holds and that isn't -0: what +0 does to it, and that every number answered is such a
+-- value again. Everything above uses these laws and never `round`.
 use mathlib.Core.Path.{_≡_, refl, sym, ap, _∙_}
 use mathlib.Core.Bool.{Bool, true, false, cond, _&&_, true≢false, false≢true}
 use Prim.Native.Nat.{ℕ, zero, suc, _+_, _-_, _*_, _/_, _%_, _^_, _≤_, _<_}

@@ -10,7 +10,8 @@ use lib.Ieee.{Float}
 use Rattle.model.specs.Lists.{joined, kept, total}
 use Rattle.model.specs.Arith.{Answer, number, overflow, zeroDivisor, quotient, isZero, next}
 use Rattle.model.specs.Fill.{Plan}
-use Rattle.model.specs.Formula.{Table, C, Y, X, Tables, Formula, numberOf, entry, closed, starting, less, lessAll, over, tested, value, Ended, solved, refused, worked}
+use Rattle.model.specs.Formula.{Table, C, Y, X, Tables, Formula, numberOf, entry, closed, Ended, solved, refused, worked}
+use Rattle.model.specs.Formula.{starting, less, lessAll, over, tested, value}
 use Rattle.model.specs.Crout.{lower, forward, upper, backward, batch, formulas, reducedFormulas}
 use Rattle.model.specs.Program.{Record, rec, opening, recordsOf}
 use Rattle.model.specs.Check.{kindOf, subtracts}

@@ -1,4 +1,5 @@
--- The reduction: the reduced formulas worked out end as dense Crout does, with C compressed and labels as slots; and where a pivot is missing dense Crout never ends solved.
+-- The reduction: the reduced formulas worked out end as dense Crout does, with C compressed and labels as slots; and where a pivot is missing
+-- dense Crout never ends solved.
 use Prim.Native.Nat.{ℕ, suc, _*_}
 use native.Mathlib.Omega.{arith}
 use mathlib.Core.Path.{_≡_, refl, sym, ap, ap₂, subst, _∙_}
@@ -16,7 +17,8 @@ use Rattle.model.specs.Agreement.{Given, Accepted, packed}
 use Rattle.model.proofs.Labels.{Inside, label-range, place-of-label}
 use Rattle.model.proofs.Plans.{pivot-held, missing-free}
 use Rattle.model.proofs.Picked.{picked, shrunk, shrunk-y, shrunk-x, shrunk-held, shrunk-unheld, shrunk-packed}
-use Rattle.model.proofs.Values.{Sound, sound-nothing, sound-c, sound-y, sound-x, Reads, reads-good, number-good, place-entered, place-same, forward-same, backward-same, unheld-value}
+use Rattle.model.proofs.Values.{Sound, sound-nothing, sound-c, sound-y, sound-x, Reads, reads-good, number-good, place-entered}
+use Rattle.model.proofs.Values.{place-same, forward-same, backward-same, unheld-value}
 use Rattle.model.proofs.Beside.{formulaOf, denseOf, beside, Beside, done, on-both, left-out, into-y, into-x}
 
 -- dense Crout's ending, with C compressed and a refusal in C by the slot of its place

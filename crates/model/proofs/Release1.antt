@@ -1,5 +1,5 @@
--- The runner of `specs/` is release 1's: for every input it checks, runs, answers and leaves as `specs/Release1`, here R, says. And what a program that release 1
--- accepts may count on.
+-- The runner of `specs/` is release 1's: for every input it checks, runs, answers and leaves as `specs/Release1`, here R, says. And what a program that
+-- release 1 accepts may count on.
 use Prim.Native.Nat.{ℕ, zero, suc}
 use mathlib.Core.Path.{_≡_, refl, sym, ap, ap₂, _∙_}
 use mathlib.Core.Bool.{Bool, true, false, cond, true≢false}
@@ -16,8 +16,10 @@ use Rattle.model.specs.Fill.{Plan, missing}
 use Rattle.model.specs.Program.{rec, compiled}
 use Rattle.model.specs.Compile.{judged, good}
 use Rattle.model.specs.Check.{word, nextOf, Chain, whole, broken, before, chainAfter, chain, Open, idle, busy, Progress, Verdict, fine, refusal}
-use Rattle.model.specs.Check.{Kind, opens, subtracts, divides, closes, closesPivot, none, kindOf, formed, inOrder, inTurn, counted, onward, isIdle, complete, checkLinks, check}
-use Rattle.model.specs.Run.{State, Stepped, going, stop, closing, settledStep, step, Outcome, solution, stopped, refusedBy, follow, notFinite, ran, Reply, solves, stops, refuses, reply, leaves}
+use Rattle.model.specs.Check.{Kind, opens, subtracts, divides, closes, closesPivot, none, kindOf}
+use Rattle.model.specs.Check.{formed, inOrder, inTurn, counted, onward, isIdle, complete, checkLinks, check}
+use Rattle.model.specs.Run.{State, Stepped, going, stop, closing, settledStep, step, Outcome, solution, stopped, refusedBy, follow, notFinite, ran}
+use Rattle.model.specs.Run.{Reply, solves, stops, refuses, reply, leaves}
 use Rattle.model.proofs.Lists.{Each}
 use Rattle.model.proofs.Runs.{ran-is, ranBy, gated, lengthsRight}
 use Rattle.model.proofs.Following.{ended, follows}
@@ -256,7 +258,8 @@ module _ (N n s : ℕ) where
 pub check-frozen : (W : List ℕ) → verdictNow (R.check W) ≡ check W
 unfolding R.check check
 check-frozen W =
-    required-frozen verdictNow 7 0 _ refl (required-frozen verdictNow 8 0 _ refl (rw (← chain-frozen W) (links-frozen (word W 0) (word W 1) (word W 2) _ (R.chain W))))
+    required-frozen verdictNow 7 0 _ refl (required-frozen verdictNow 8 0 _ refl
+    (rw (← chain-frozen W) (links-frozen (word W 0) (word W 1) (word W 2) _ (R.chain W))))
 
 -- ---- the run
 
@@ -298,7 +301,8 @@ module _ (A B : List Float) where
   unfolding R.follow follow
   follow-frozen z (R.link index k p q c) = by (R.step A B z (R.kindOf k) p q) refl (λ z′. follow-frozen z′ c)
     where
-      by : (a : R.Answer R.State) → R.step A B z (R.kindOf k) p q ≡ a → ((z′ : R.State) → outcomeNow (R.follow A B z′ c) ≡ follow A B (stateNow z′) (chainNow c .links))
+      by : (a : R.Answer R.State) → R.step A B z (R.kindOf k) p q ≡ a
+          → ((z′ : R.State) → outcomeNow (R.follow A B z′ c) ≡ follow A B (stateNow z′) (chainNow c .links))
           → outcomeNow (R.follow A B z (R.link index k p q c)) ≡ follow A B (stateNow z) (chainNow (R.link index k p q c) .links)
       by (R.gives z′) e rest = rw (R.follow, follow, ← kind-frozen k, ← step-frozen, e) (rest z′)
       by R.overflow e rest = rw (R.follow, follow, ← kind-frozen k, ← step-frozen, e)

@@ -12,10 +12,13 @@ use borrow.Author.Tests.{ltb-true, eqb-false}
 use Rattle.model.specs.Label.{isOrder, within}
 use Rattle.model.specs.Fill.{Plan, missing, recordCount, slots, productCount}
 use Rattle.model.specs.Check as Check
-use Rattle.model.specs.Check.{Link, Kind, opens, subtracts, divides, closes, closesPivot, none, End, whole, broken, Chain, chainAfter, chain, nextOf, recordAt, before, Progress, Verdict, fine, kindOf, formed, inOrder, inTurn, onward, complete, checkLinks, check, begun, word}
+use Rattle.model.specs.Check.{Link, Kind, opens, subtracts, divides, closes, closesPivot, none, Progress, Verdict, fine}
+use Rattle.model.specs.Check.{End, whole, broken, Chain, chainAfter, chain, nextOf, recordAt, before}
+use Rattle.model.specs.Check.{kindOf, formed, inOrder, inTurn, onward, complete, checkLinks, check, begun, word}
 use Rattle.model.specs.Arith.{Answer, number, overflow, zeroDivisor, quotient, isZero, isFinite}
 use Rattle.model.specs.Formula.{C, Y, X, entry, less}
-use Rattle.model.specs.Run.{State, Outcome, stopped, refusedBy, fresh, Stepped, going, stop, closing, subtracted, dividedBy, settledStep, step, follow, notFinite, ran, Reply, solves, stops, refuses, reply}
+use Rattle.model.specs.Run.{State, Outcome, stopped, refusedBy, fresh, Stepped, going, stop, closing, subtracted, dividedBy, settledStep}
+use Rattle.model.specs.Run.{step, follow, notFinite, ran, Reply, solves, stops, refuses, reply}
 use Rattle.model.specs.Compile as Compile
 use Rattle.model.specs.Compile.{Compiled, written, Labels, good, bad, judged, compiles}
 use Rattle.model.specs.Program.{compiled}
@@ -95,7 +98,10 @@ links-small b N n s g (l ∷ ls) end (h, hs) e =
 
     step : (f o t : Bool) → SmallVerdict b rest → SmallVerdict b (elim f as (λ b. Verdict) [
       | false ↦ Check.refusal 10 (l .index)
-      | true ↦ elim o as (λ b. Verdict) [ false ↦ Check.refusal 11 (l .index) | true ↦ elim t as (λ b. Verdict) [ false ↦ Check.refusal 12 (l .index) | true ↦ rest ] ]
+      | true ↦ elim o as (λ b. Verdict) [
+        | false ↦ Check.refusal 11 (l .index)
+        | true ↦ elim t as (λ b. Verdict) [ false ↦ Check.refusal 12 (l .index) | true ↦ rest ]
+      ]
     ])
     step false o t r = omega arith
     step true false t r = omega arith

@@ -90,7 +90,13 @@ module _ (N : ℕ) (L : Plan) (A B : List Float) (work words : ℕ) (c y x : Lis
   unfolding told leftIn replied
   refused-solves r d e =
       let ends = solving-refused N L A B work words (length c) (length y) (length x) r d e in
-      record { tells = ap told (sym ends); replies = rw (replied, e); c-is = ap (λ s. leftIn s C c) (sym ends); y-is = ap (λ s. leftIn s Y y) (sym ends); x-is = ap (λ s. leftIn s X x) (sym ends) }
+      record {
+        tells = ap told (sym ends);
+        replies = rw (replied, e);
+        c-is = ap (λ s. leftIn s C c) (sym ends);
+        y-is = ap (λ s. leftIn s Y y) (sym ends);
+        x-is = ap (λ s. leftIn s X x) (sym ends);
+      }
 
   -- after the run of the compiled program
   pub ran-solves : (s p r : ℕ) → compiles N L work words ≡ written s p r → Values A → Values B
@@ -99,8 +105,8 @@ module _ (N : ℕ) (L : Plan) (A B : List Float) (work words : ℕ) (c y x : Lis
   unfolding replied
   ran-solves s p r e a b =
       let ends = solving-runs N L A B work words (length c) (length y) (length x) s p r e a b in
-      let left : (t : Table) (vs : List Float)
-      → leaves (ran (compiled N L) A B (length c) (length y) (length x)) t vs ≡ leftIn (solving N L A B work words (length c) (length y) (length x)) t vs =
+      let o = ran (compiled N L) A B (length c) (length y) (length x) in
+      let left : (t : Table) (vs : List Float) → leaves o t vs ≡ leftIn (solving N L A B work words (length c) (length y) (length x)) t vs =
       λ t vs. leaves-left _ t vs ∙ ap (λ s. leftIn s t vs) ends in
       record { tells = tells-told _ ∙ ap told ends; replies = rw (replied, e); c-is = left C c; y-is = left Y y; x-is = left X x }
 

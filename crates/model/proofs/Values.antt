@@ -1,4 +1,5 @@
--- The value of one formula: every number is good; a product with a factor that isn't held changes nothing; so the reduced formula of a place has dense Crout's value, and a place that isn't held has +0.
+-- The value of one formula: every number is good; a product with a factor that isn't held changes nothing; so the reduced formula of a place
+-- has dense Crout's value, and a place that isn't held has +0.
 use Prim.Native.Nat.{ℕ, zero, suc, _-_, _≤_, _<_}
 use native.Mathlib.Decide.{decLe}
 use native.Mathlib.Omega.{arith}
@@ -22,7 +23,8 @@ use Rattle.model.proofs.Search.{kept-none}
 use Rattle.model.proofs.Labels.{Inside, label-in-row, label-range, label-injective}
 use Rattle.model.proofs.Fill.{not-held}
 use Rattle.model.proofs.Slots.{slot-range}
-use Rattle.model.proofs.Arith.{Good, nought, GoodAnswer, clean-good, difference-good, quotient-good, product-nought-left, product-nought-right, quotient-nought, difference-nought}
+use Rattle.model.proofs.Arith.{Good, nought, GoodAnswer, clean-good, difference-good, quotient-good}
+use Rattle.model.proofs.Arith.{product-nought-left, product-nought-right, quotient-nought, difference-nought}
 use Rattle.model.proofs.Picked.{shrunk, entry-held}
 use Rattle.model.proofs.Beside.{denseOf, reducedOf, formula-lower, formula-upper}
 

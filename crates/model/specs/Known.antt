@@ -7,7 +7,8 @@ use lib.IntN.{pos, negsuc}
 use lib.Ieee.{Float, fin, binary64, ofInt, mul, sub, div}
 use Rattle.model.specs.Lists.{rising, falling, joined, kept, total, some, count}
 use Rattle.model.specs.Label.{label, column, row, places, place}
-use Rattle.model.specs.Fill.{Plan, positionFrom, position, heldWithin, held, heldPlaces, slots, slot, missingFrom, missing, pairsAt, below, above, productCount, recordCount}
+use Rattle.model.specs.Fill.{Plan, positionFrom, position, heldWithin, held, heldPlaces, slots, slot}
+use Rattle.model.specs.Fill.{missingFrom, missing, pairsAt, below, above, productCount, recordCount}
 use Rattle.model.specs.Arith.{plusZero, clean, settled, isZero, isFinite, product, difference, quotient, next}
 use Rattle.model.specs.Formula.{C, Y, Tables, solved, refused, entry, closed, starting, less, lessAll, over, tested, value, worked}
 use Rattle.model.specs.Crout.{inner, lower, forward, upper, backward, batch, formulas, denseFormulas, reducedFormulas, dense}
@@ -87,7 +88,12 @@ pub record Known : Type 0 where
       ∷ []
 
 pub known : Known
-unfolding rising falling joined kept total some count label column row places place positionFrom position heldWithin held heldPlaces slots slot missingFrom missing pairsAt below above productCount recordCount clean settled isZero isFinite product difference quotient next entry closed starting less lessAll over tested value worked inner lower forward upper backward batch formulas denseFormulas reducedFormulas dense opening recordsOf chained compiledRecords compiled judged compiles chainAfter chain kindOf formed inOrder inTurn complete checkLinks check step follow notFinite ran mul sub div ofInt
+unfolding rising falling joined kept total some count label column row places place
+    positionFrom position heldWithin held heldPlaces slots slot missingFrom missing pairsAt below above productCount recordCount
+    clean settled isZero isFinite product difference quotient next entry closed starting less lessAll over tested value worked
+    inner lower forward upper backward batch formulas denseFormulas reducedFormulas dense
+    opening recordsOf chained compiledRecords compiled judged compiles
+    chainAfter chain kindOf formed inOrder inTurn complete checkLinks check step follow notFinite ran mul sub div ofInt
 known = record {
   p1 = (refl, refl, refl, refl, refl, refl);
   p2 = refl;

@@ -45,7 +45,14 @@ abbrev pub dividedBy : State → Float → State
 dividedBy z v = record { tables = z .tables; table = z .table; target = z .target; running = v; products = z .products; quotients = suc (z .quotients) }
 
 abbrev pub closing : State → State
-closing z = record { tables = closed (z .tables) (z .table) (z .running); table = z .table; target = z .target; running = z .running; products = z .products; quotients = z .quotients }
+closing z = record {
+  tables = closed (z .tables) (z .table) (z .running);
+  table = z .table;
+  target = z .target;
+  running = z .running;
+  products = z .products;
+  quotients = z .quotients;
+}
 
 -- an operation's answer as a step
 abbrev pub settledStep : Answer → (Float → State) → Stepped
