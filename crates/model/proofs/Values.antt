@@ -179,37 +179,52 @@ sound-nothing N L = record {
   pivot = λ m low high h. absurd (omega (arith, label-range N m m (omega arith)));
 }
 
-pub sound-c : {N n : ℕ} {L : Plan} {t : Tables} {v : Float} → Sound N L n t → (i j : ℕ) → Inside N i j → suc n ≡ label N i j
-    → Entered N L i j v → Sound N L (suc n) (closed t C v)
-unfolding entry closed
-sound-c {N} {n} {L} {t} {v} sound i j inside turn entered = record {
-  count = rw length-append (omega arith);
-  good-c = more-good (sound .good-c) (entered .good);
-  good-y = sound .good-y;
-  good-x = sound .good-x;
-  unheld = λ a b there e. rw getD-more (either (λ w. w ≡ plusZero) (last (label N a b)) v (entry t C (label N a b))
-      (λ q. let (p, r) = here a b there q in entered .unheld (rw (p, r) e)) (λ q. sound .unheld a b there e));
-  pivot = λ m low high h. let there : Inside N m m = omega arith in
-      rw getD-more (either (λ w. isZero w ≡ false) (last (label N m m)) v (entry t C (label N m m))
-      (λ q. let (p, r) = here m m there q in entered .pivot (p ∙ sym r)) (λ q. sound .pivot m low high (earlier m there h q)));
-}
-  where
-    last : ℕ → Bool
-    last k = eqb (k - 1) (length (t .c))
+-- one entry more
+module _ {N n : ℕ} {L : Plan} {t : Tables} {v : Float} (sound : Sound N L n t) where
+  pub sound-c : (i j : ℕ) → Inside N i j → suc n ≡ label N i j → Entered N L i j v → Sound N L (suc n) (closed t C v)
+  unfolding entry closed
+  sound-c i j inside turn entered = record {
+    count = rw length-append (omega arith);
+    good-c = more-good (sound .good-c) (entered .good);
+    good-y = sound .good-y;
+    good-x = sound .good-x;
+    unheld = λ a b there e. rw getD-more (either (λ w. w ≡ plusZero) (last (label N a b)) v (entry t C (label N a b))
+        (λ q. let (p, r) = here a b there q in entered .unheld (rw (p, r) e)) (λ q. sound .unheld a b there e));
+    pivot = λ m low high h. let there : Inside N m m = omega arith in
+        rw getD-more (either (λ w. isZero w ≡ false) (last (label N m m)) v (entry t C (label N m m))
+        (λ q. let (p, r) = here m m there q in entered .pivot (p ∙ sym r)) (λ q. sound .pivot m low high (earlier m there h q)));
+  }
+    where
+      last : ℕ → Bool
+      last k = eqb (k - 1) (length (t .c))
 
-    here : (a b : ℕ) → Inside N a b → last (label N a b) ≡ true → (i ≡ a) × (j ≡ b)
-    here a b there q = label-injective N i j a b inside there (omega (arith, eqb-true (label N a b - 1) (length (t .c)) q, label-range N a b there))
+      here : (a b : ℕ) → Inside N a b → last (label N a b) ≡ true → (i ≡ a) × (j ≡ b)
+      here a b there q = label-injective N i j a b inside there (omega (arith, eqb-true (label N a b - 1) (length (t .c)) q, label-range N a b there))
 
-    earlier : (m : ℕ) → Inside N m m → label N m m ≤ suc n → last (label N m m) ≡ false → label N m m ≤ n
-    earlier m there h q = omega (arith, eqb-false (label N m m - 1) (length (t .c)) q, label-range N m m there)
+      earlier : (m : ℕ) → Inside N m m → label N m m ≤ suc n → last (label N m m) ≡ false → label N m m ≤ n
+      earlier m there h q = omega (arith, eqb-false (label N m m - 1) (length (t .c)) q, label-range N m m there)
 
-pub sound-y : {N n : ℕ} {L : Plan} {t : Tables} {v : Float} → Sound N L n t → Good v → Sound N L n (closed t Y v)
-unfolding entry closed
-sound-y s g = record { count = s .count; good-c = s .good-c; good-y = more-good (s .good-y) g; good-x = s .good-x; unheld = s .unheld; pivot = s .pivot }
+  pub sound-y : Good v → Sound N L n (closed t Y v)
+  unfolding entry closed
+  sound-y good = record {
+    count = sound .count;
+    good-c = sound .good-c;
+    good-y = more-good (sound .good-y) good;
+    good-x = sound .good-x;
+    unheld = sound .unheld;
+    pivot = sound .pivot;
+  }
 
-pub sound-x : {N n : ℕ} {L : Plan} {t : Tables} {v : Float} → Sound N L n t → Good v → Sound N L n (closed t X v)
-unfolding entry closed
-sound-x s g = record { count = s .count; good-c = s .good-c; good-y = s .good-y; good-x = first-good (s .good-x) g; unheld = s .unheld; pivot = s .pivot }
+  pub sound-x : Good v → Sound N L n (closed t X v)
+  unfolding entry closed
+  sound-x good = record {
+    count = sound .count;
+    good-c = sound .good-c;
+    good-y = sound .good-y;
+    good-x = first-good (sound .good-x) good;
+    unheld = sound .unheld;
+    pivot = sound .pivot;
+  }
 
 -- ---- the reduced formulas' products beside dense Crout's
 
