@@ -1,6 +1,6 @@
 /* Reduced Crout for C: a plan is compiled to a program, and a program is run on coefficients.
 
-   Document 01 in the comments is the scope that the package is proved against. Every function answers on every input and
+   Document 01 in the comments is docs/SCOPE.md, what the package is proved against. Every function answers on every input and
    writes only into what it is lent. A pointer is followed by the number of its entries; the slices of one call don't overlap, and a
    slice of no entries still has a pointer that isn't null.
 
