@@ -1,4 +1,4 @@
-//! A plan to a program: fill by search, slots, counts, then the records.
+//! A plan to a program: marks, fill by search, slots, counts, then the records.
 
 use super::Refusal;
 
@@ -15,10 +15,12 @@ pub fn compile(n: u32, plan: &[u32], work: &mut [u32], words: &mut [u32]) -> Res
     }
     judge(n, plan)?;
     let work = &mut work[..square];
-    let table = Table::fill(n as usize, plan, work).map_err(|m| {
+    mark(plan, work);
+    let table = Table::fill(n as usize, work);
+    if table.missing != 0 {
         work.fill(0);
-        (5, m as u64)
-    })?;
+        return Err((5, table.missing as u64));
+    }
     if words.len() / 4 < table.records() {
         return Err((6, table.records() as u64));
     }
@@ -41,6 +43,14 @@ fn judge(n: u32, plan: &[u32]) -> Result<(), Refusal> {
     Ok(())
 }
 
+/// Work number K becomes 1 where label K is in the plan, else 0.
+fn mark(plan: &[u32], work: &mut [u32]) {
+    work.fill(0);
+    for &label in plan {
+        work[label as usize - 1] = 1;
+    }
+}
+
 /// What is known of the held places beside their slots, which stand in the work slice by label. Rows and columns count from 1.
 struct Table {
     n: usize,
@@ -51,6 +61,8 @@ struct Table {
     /// The held places below each pivot, and those to the right of it.
     below: Vec<usize>,
     right: Vec<usize>,
+    /// The first missing pivot, 0 if none is.
+    missing: usize,
 }
 
 /// The indices in the work slice of (i, h) and (h, j) for h rising, by additions; h is below both i and j.
@@ -74,24 +86,14 @@ impl Walk {
     }
 }
 
-/// How far the places have been walked: the labels of the plan passed, and the next place's index.
-struct Reached<'a> {
-    plan: &'a [u32],
-    position: usize,
-    label: usize,
-}
-
-/// How many of the next places, of which the first has this index, are not in the plan and can have no pair in batch m: they take 0.
-fn empties(first: &[usize], m: usize, from: usize, next: Option<&u32>, work: &mut [u32]) -> usize {
-    let planned = next.map_or(usize::MAX, |&label| label as usize - 1);
-    let empty = first.iter().take(planned - from).take_while(|&&h| h >= m).count();
-    work[from..from + empty].fill(0);
-    empty
+/// How many of the next places, of which the first has this index, are not in the plan and can have no pair in batch m.
+fn empties(first: &[usize], m: usize, marks: &[u32]) -> usize {
+    first.iter().zip(marks).take_while(|&(&h, &mark)| mark == 0 && h >= m).count()
 }
 
 impl Table {
-    /// The slots of all places by rising label, or the first missing pivot.
-    fn fill(n: usize, plan: &[u32], work: &mut [u32]) -> Result<Self, usize> {
+    /// The slots of all places by rising label, in the place of their marks.
+    fn fill(n: usize, work: &mut [u32]) -> Self {
         let mut table = Self {
             n,
             slots: 0,
@@ -99,41 +101,38 @@ impl Table {
             first_row: vec![n + 1; n + 1],
             below: vec![0; n + 1],
             right: vec![0; n + 1],
+            missing: 0,
         };
-        let mut reached = Reached { plan, position: 0, label: 0 };
+        let mut label = 0;
         for m in 1..=n {
-            let pivot = reached.label;
+            let pivot = label;
             let mut i = m;
             while i <= n {
-                i += table.settle(i, m, &mut reached, work);
+                let places = table.settle(i, m, label, work);
+                label += places;
+                i += places;
             }
-            if work[pivot] == 0 {
-                return Err(m);
+            if work[pivot] == 0 && table.missing == 0 {
+                table.missing = m;
             }
             let mut j = m + 1;
             while j <= n {
-                j += table.settle(m, j, &mut reached, work);
+                let places = table.settle(m, j, label, work);
+                label += places;
+                j += places;
             }
         }
-        Ok(table)
+        table
     }
 
-    /// A place takes its slot or 0, and those after it in its column or row that can't be held take 0; how many places that is.
+    /// A place takes its slot or 0, and those after it in its column or row that can't be held are passed; how many places that is.
     #[inline(always)]
-    fn settle(&mut self, i: usize, j: usize, reached: &mut Reached, work: &mut [u32]) -> usize {
-        let planned = reached.plan.get(reached.position) == Some(&(reached.label as u32 + 1));
-        reached.position += usize::from(planned);
-        work[reached.label] = self.slot(i, j, planned, work);
+    fn settle(&mut self, i: usize, j: usize, label: usize, work: &mut [u32]) -> usize {
+        if work[label] != 0 || self.filled(i, j, work) {
+            work[label] = self.hold(i, j);
+        }
         let first = if j <= i { &self.first_column[i + 1..] } else { &self.first_row[j + 1..] };
-        let places = 1 + empties(first, i.min(j), reached.label + 1, reached.plan.get(reached.position), work);
-        reached.label += places;
-        places
-    }
-
-    /// The slot of a place, or 0.
-    #[inline(always)]
-    fn slot(&mut self, i: usize, j: usize, planned: bool, work: &[u32]) -> u32 {
-        if planned || self.filled(i, j, work) { self.hold(i, j) } else { 0 }
+        1 + empties(first, i.min(j), &work[label + 1..])
     }
 
     /// The h from which on (i, h) and (h, j) can both be held.

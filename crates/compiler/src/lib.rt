@@ -2,8 +2,8 @@
 mod checks;
 
 use checks::Judged;
-use slots::Filled;
-use slots::lines::wide;
+use numbers::wide;
+use numbers::within;
 ghost use mathlib.Core.Path.{_≡_};
 ghost use mathlib.Core.Bool.{true};
 ghost use Prim.Native.Nat.{_+_, _*_, _≤_};
@@ -32,7 +32,7 @@ pub fn compile(n: u32, plan: &[u32], work: &mut [u32], words: &mut [u32]) -> Com
     ensures work { λ r. ⌜ now (work .exit) ≡ workAfter n (now (plan .entry)) (now (work .entry)) (length (now (words .entry))) ⌝ }
     ensures words { λ r. ⌜ now (words .exit) ≡ wordsAfter n (now (plan .entry)) (length (now (work .entry))) (now (words .entry)) ⌝ }
 {
-    if !checks::within(n, 600) {
+    if !within(n, 600) {
         return Compilation::Refused {
             number: 1,
             detail: 0,
@@ -61,33 +61,30 @@ fn compile_good(n: u32, plan: &[u32], work: &mut [u32], words: &mut [u32]) -> Co
 {
     let mut rows = [601u32; 601];
     let mut columns = [601u32; 601];
-    match slots::fill(n, plan, work, &mut rows, &mut columns) {
-        Filled::Missing(m) => {
-            checks::clear(work, wide(n * n));
-            Compilation::Refused {
-                number: 5,
-                detail: m as u64,
-            }
-        }
-        Filled::All {
-            slots,
-            products,
-            above,
-        } => {
-            let records = record_count(n, slots, products, above);
-            if words.len() < 4 * wide(records) {
-                return Compilation::Refused {
-                    number: 6,
-                    detail: records as u64,
-                };
-            }
-            writer::write(n, plan, work, &rows, &columns, words, slots);
-            Compilation::Written {
-                slots,
-                products,
-                records,
-            }
-        }
+    slots::mark(n, plan, work);
+    let filled = slots::fill(n, work, &mut rows, &mut columns);
+    let missing = filled.missing;
+    if missing != 0 {
+        slots::clear(work, wide(n * n));
+        return Compilation::Refused {
+            number: 5,
+            detail: missing as u64,
+        };
+    }
+    let slots = filled.slots;
+    let products = filled.products;
+    let records = record_count(n, slots, products, filled.above);
+    if words.len() < 4 * wide(records) {
+        return Compilation::Refused {
+            number: 6,
+            detail: records as u64,
+        };
+    }
+    writer::write(n, plan, work, &rows, &columns, words, slots);
+    Compilation::Written {
+        slots,
+        products,
+        records,
     }
 }
 

@@ -1,6 +1,7 @@
 -- The laws that the proofs of `slots` share.
-pub mod Notes
+pub mod Marks
 pub mod Here
+pub mod Notes
 pub mod Search
 pub mod Settling
 pub mod Along

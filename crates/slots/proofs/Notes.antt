@@ -31,7 +31,8 @@ module _ {l l′ : List ℕ} {k h : ℕ} {taken : Bool} (n : Noted k h taken l l
     note-of : (a : ℕ) → (getD l′ a 0 ≡ getD l a 0) ⊎ ((a ≡ k) × (getD l′ a 0 ≡ min h (getD l a 0)))
     note-of a = rw (n .noted) (step taken (ℕ-discrete a k))
       where
-        step : (b : Bool) → Dec (a ≡ k) → (getD (cond b (set l k (min h (getD l k 0))) l) a 0 ≡ getD l a 0) ⊎ ((a ≡ k) × (getD (cond b (set l k (min h (getD l k 0))) l) a 0 ≡ min h (getD l a 0)))
+        step : (b : Bool) → Dec (a ≡ k) → (getD (cond b (set l k (min h (getD l k 0))) l) a 0 ≡ getD l a 0)
+            ⊎ ((a ≡ k) × (getD (cond b (set l k (min h (getD l k 0))) l) a 0 ≡ min h (getD l a 0)))
         step true (yes e) = inr (e, rw e (getD-set-same l k (min h (getD l k 0)) 0 inside))
         step true (no d) = inl (getD-set-other l k a (min h (getD l k 0)) 0 d)
         step false d = inl refl

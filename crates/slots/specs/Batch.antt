@@ -2,7 +2,7 @@
 use Prim.Native.Nat.{ℕ, suc, _-_}
 use mathlib.Core.Bool.{Bool, cond, _&&_}
 use mathlib.Core.List.{List}
-use lib.Dec.{ltb}
+use lib.Dec.{leb, ltb, eqb}
 use lib.ListN.{getD}
 use Rattle.model.specs.Label.{label}
 
@@ -23,3 +23,7 @@ notedOf across inRows inColumns t = cond across (getD inColumns t 0) (getD inRow
 -- whether (i, h) and (h, j) have work numbers
 abbrev pub pairAt : ℕ → List ℕ → ℕ → ℕ → ℕ → Bool
 pairAt n work i j h = ltb 0 (getD work (label n i h - 1) 0) && ltb 0 (getD work (label n h j - 1) 0)
+
+-- whether a line has a k-th place, at this index, that is unmarked, and whose other line notes nothing before batch m
+abbrev pub emptyAt : ℕ → Bool → ℕ → List ℕ → List ℕ → List ℕ → ℕ → ℕ → Bool
+emptyAt n across m work inRows inColumns k index = leb k n && (eqb (getD work index 0) 0 && leb m (notedOf across inRows inColumns k))

@@ -1,4 +1,5 @@
 -- What the contracts of the slot pass cite.
-pub mod Skips
 pub mod Batch
+pub mod Marks
+pub mod Skips
 pub mod Walked

@@ -22,10 +22,3 @@ pub fn first_of(across: bool, m: u32) -> u32
 {
     if across { m + 1 } else { m }
 }
-
-// A number as an index.
-pub fn wide(x: u32) -> usize
-    ensures { λ r. ⌜ r ≡ x ⌝ }
-{
-    x as usize
-}

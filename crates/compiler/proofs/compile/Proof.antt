@@ -15,13 +15,23 @@ use Rattle.compiler.specs.Judge.{labelsOf}
 use Rattle.compiler.proofs.compile.Statement.{statement}
 use Rattle.compiler.proofs.compile.Tie as tie
 
-ordered : (k : tie.Else1) → isOrder (k .before .before .before .before .before .args .n) ≡ true
-ordered k = sym (k .before .within .ensures) ∙ not-false _ (k .if1 .left)
+-- Places of the code: past check 1, with the entry before it; and past check 2.
+abbrev entry : tie.Else1 → tie.Start
+entry c = c .before .before .before .before .before
 
-square-fits : (k : tie.Else1) → let n = k .before .before .before .before .before .args .n in n * n ≤ 360000
-square-fits k = let n = within-range _ 600 (ordered k) .1 in mul-le-mul {n₂ = 600} {m₂ = 600} n n
+abbrev Sized : Type 0
+Sized = tie.Else2
 
-roomy : (k : tie.Else2) → let a = k .before .before .before .before .before .before .before .args in a .n * a .n ≤ length (now (a .work))
+abbrev ordered : Sized → tie.Else1
+ordered c = c .before .before
+
+in-order : (k : tie.Else1) → isOrder (entry k .args .n) ≡ true
+in-order k = sym (k .before .within .ensures) ∙ not-false _ (k .if1 .left)
+
+square-fits : (k : tie.Else1) → let n = entry k .args .n in n * n ≤ 360000
+square-fits k = let n = within-range _ 600 (in-order k) .1 in mul-le-mul {n₂ = 600} {m₂ = 600} n n
+
+roomy : (k : Sized) → let a = entry (ordered k) .args in a .n * a .n ≤ length (now (a .work))
 roomy k = omega arith
 
 within-requires : tie.Need-within-requires
@@ -41,12 +51,12 @@ cast-t12 c = search needs
 
 returns-2 : tie.Need-returns-2
 returns-2 c =
-    let a = c .before .before .before .before .before .before .before .args in
-    let e = ends-room (a .n) (now (a .plan)) (now (a .work)) (now (a .words)) (ordered (c .before .before)) (omega arith) in
+    let a = entry (c .before .before) .args in
+    let e = ends-room (a .n) (now (a .plan)) (now (a .work)) (now (a .words)) (in-order (c .before .before)) (omega arith) in
     (e .answer-is, (e .work-is, e .words-is))
 
 judge-requires : tie.Need-judge-requires
-judge-requires c κs = within-range _ 600 (ordered (c .before .before)) .1
+judge-requires c κs = within-range _ 600 (in-order (ordered c)) .1
 
 enum-known-number : tie.Need-enum-known-number
 enum-known-number c = search needs
@@ -55,15 +65,16 @@ enum-told : tie.Need-enum-told
 enum-told c = search needs
 
 compile-good-requires : tie.Need-compile-good-requires
-compile-good-requires c κs = (
-  ordered (c .before .before .before .before .before .before .before),
-  (sym (c .before .before .before .before .judge .ensures) ∙ ap labelsOf (c .before .before .enum-told .given .1), roomy (c .before .before .before .before .before)),
-)
+compile-good-requires c κs =
+    let judge = c .before .before .before .before in
+    let labels = sym (judge .judge .ensures) ∙ ap labelsOf (c .before .before .enum-told .given .1) in
+    (in-order (ordered (judge .before)), (labels, roomy (judge .before)))
 
 returns-3 : tie.Need-returns-3
 returns-3 c =
-    let judged = sym (c .before .before .before .judge .ensures) ∙ ap labelsOf (c .before .number .given .1) in
-    let e = ends-labels _ _ _ _ _ _ (ordered (c .before .before .before .before .before .before)) (roomy (c .before .before .before .before)) judged in
+    let judge = c .before .before .before in
+    let labels = sym (judge .judge .ensures) ∙ ap labelsOf (c .before .number .given .1) in
+    let e = ends-labels _ _ _ _ _ _ (in-order (ordered (judge .before))) (roomy (judge .before)) labels in
     (e .answer-is, (e .work-is, e .words-is))
 
 same-length : tie.Need-same-length

@@ -1,4 +1,4 @@
--- `checks::clear` writes zeros from the front. The invariant: the first k numbers are 0, the others as they came.
+-- `slots::clear` writes zeros from the front. The invariant: the first k numbers are 0, the others as they came.
 use Prim.Native.Nat.{_≤_, _-_}
 use native.Mathlib.Omega.{arith}
 use mathlib.Core.Path.{_≡_, refl, ap, _∙_}
@@ -6,8 +6,8 @@ use mathlib.Core.List.{_++_}
 use borrow.Author.Fill.{fill-none, fill-more}
 use denote.Ref.{now}
 use lib.ListN.{length, length-set, set, drop, replicate}
-use Rattle.compiler.proofs.checks.clear.Statement.{statement}
-use Rattle.compiler.proofs.checks.clear.Tie as tie
+use Rattle.slots.proofs.clear.Statement.{statement}
+use Rattle.slots.proofs.clear.Tie as tie
 
 abbrev Inv-loop : tie.InvT-loop
 Inv-loop work₀ count k₀ work k = (k ≤ count) × (length work ≡ length work₀) × (work ≡ replicate k 0 ++ drop k work₀)
@@ -32,8 +32,9 @@ loop-less c = omega arith
 
 loop-again : tie.Need-loop-again Inv-loop μ-loop
 loop-again c =
+    let k = c .before .loop .k in
     let i = c .before .loop .inv in
-    (omega arith, simp length-set (i .1), ap (λ d. set d (c .before .loop .k) 0) (i .2) ∙ fill-more (c .before .loop .k) 0 (now (c .before .before .args .work)) (omega arith))
+    (omega arith, simp length-set (i .1), ap (λ d. set d k 0) (i .2) ∙ fill-more k 0 (now (c .before .before .args .work)) (omega arith))
 
 same-length : tie.Need-same-length Inv-loop μ-loop
 same-length c = c .before .loop .inv .1
