@@ -1,4 +1,6 @@
 // A program's words, or a file's bytes, against checks 7 to 13: document 01, "Where each refusal is checked". One pass, no memory.
+use numbers::wide;
+use numbers::within;
 use progress::Head;
 use progress::Progress;
 ghost use mathlib.Core.Path.{_≡_};
@@ -92,7 +94,7 @@ fn head_fits(h: Head) -> bool
     ensures { λ r. ⌜ r ≡ headFits (h .order) (h .coefficients) (h .slots) ⌝ }
 {
     let n = h.order;
-    progress::within(n, 600) && (h.coefficients <= n * n && (n <= h.slots && h.slots <= n * n))
+    within(n, 600) && (h.coefficients <= n * n && (n <= h.slots && h.slots <= n * n))
 }
 
 // The records along the chain, and its end. In the inner loop each is the one that follows the last, so that it is read without waiting
@@ -201,13 +203,6 @@ fn byte(x: u8) -> u32
     ensures { λ r. ⌜ (r ≡ x) × (r < 256) ⌝ }
 {
     x as u32
-}
-
-// A word as an index.
-fn wide(x: u32) -> usize
-    ensures { λ r. ⌜ r ≡ x ⌝ }
-{
-    x as usize
 }
 
 // 13 at the end of a chain.

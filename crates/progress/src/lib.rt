@@ -1,9 +1,9 @@
 // The progress of a check, and one record against 10 to 12: document 01, "Where each refusal is checked".
+use numbers::within;
 ghost use mathlib.Core.Path.{_≡_};
 ghost use mathlib.Core.Bool.{_&&_};
 ghost use Prim.Native.Nat.{_≤_};
 ghost use lib.Dec.{eqb};
-ghost use Rattle.model.specs.Label.{within as Label·within};
 ghost use Rattle.model.specs.Formula.{C, Y, X};
 ghost use Rattle.model.specs.Check.{idle, opens, kindOf, inTurn, counted};
 ghost use Rattle.model.specs.Check.{complete as Check·complete};
@@ -163,13 +163,6 @@ fn unused(p: u32, q: u32) -> bool
     ensures { λ r. ⌜ r ≡ (eqb p 0 && eqb q 0) ⌝ }
 {
     p == 0 && q == 0
-}
-
-// Whether k lies in 1..n.
-pub fn within(k: u32, n: u32) -> bool
-    ensures { λ r. ⌜ r ≡ Label·within k n ⌝ }
-{
-    0 < k && k <= n
 }
 
 // 12 of kind 1: C(q) opens after the closed ones, with A(p), or with zero if p is 0.

@@ -8,6 +8,7 @@ ghost use Rattle.model.specs.Run as Run;
 ghost use Rattle.runner.specs.Outcome.{replyOf};
 ghost use Rattle.runner.specs.Following.{done, stands, lengthsFit, position, Fit};
 use checker::Checked;
+use numbers::wide;
 use state::Stepped;
 
 // How a run ends: solved, with the products and quotients made; stopped at a record, by 16 or 17, with the table (1 for C, 2 Y, 3 X) and
@@ -110,12 +111,6 @@ fn run_records(
     clear(y);
     clear(x);
     outcome
-}
-
-fn wide(x: u32) -> usize
-    ensures { λ r. ⌜ r ≡ x ⌝ }
-{
-    x as usize
 }
 
 // The records along the chain. In the inner loop each is the one that follows the last, so that it is read without waiting for the index

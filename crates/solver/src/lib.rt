@@ -5,6 +5,7 @@
 // product count, or 16 or 17 at the same formula. A plan refused for a missing pivot is solved by dense Crout for no finite values: that is
 // the law `never-solved` in crates/model/proofs/Reduction.antt.
 use compiler::Compilation;
+use numbers::wide;
 use runner::Outcome;
 ghost use mathlib.Core.Path.{_≡_};
 ghost use lib.ListN.{length};
@@ -47,10 +48,4 @@ pub fn solve(
             runner::run(&words[..end], a, b, c, y, x)
         }
     }
-}
-
-fn wide(x: u32) -> usize
-    ensures { λ r. ⌜ r ≡ x ⌝ }
-{
-    x as usize
 }

@@ -10,6 +10,7 @@ ghost use Rattle.model.specs.Check.{kindOf};
 ghost use Rattle.model.specs.Run as Run;
 ghost use Rattle.state.specs.States.{unopened, Sound, SoundStep, Free, Ready, stateOf, steppedOf, answered, opened, subtracted, dividedBy};
 use arith::Operation;
+use numbers::wide;
 
 // The running number, the table and number of its target, how many entries of C, Y and X are closed, and the products and quotients made.
 pub struct State {
@@ -99,12 +100,6 @@ impl State {
         }
         self
     }
-}
-
-fn wide(x: u32) -> usize
-    ensures { λ r. ⌜ r ≡ x ⌝ }
-{
-    x as usize
 }
 
 // The k-th value, from 1.
