@@ -8,7 +8,8 @@ use borrow.Author.Tests.{lt-ltb, le-ltb, ltb-true, ltb-false, leb-true, ne-eqb}
 use Rattle.model.specs.Label.{within}
 use Rattle.model.specs.Formula.{Table, C, Y, X, numberOf}
 use Rattle.model.specs.Check as Check
-use Rattle.model.specs.Check.{Open, idle, busy, Kind, opens, subtracts, divides, closes, closesPivot, none, kindOf, formed, inOrder, inTurn, counted, onward, isIdle}
+use Rattle.model.specs.Check.{Open, idle, busy, isIdle, Kind, opens, subtracts, divides, closes, closesPivot, none, kindOf}
+use Rattle.model.specs.Check.{formed, inOrder, inTurn, counted, onward}
 use Rattle.progress.specs.declared.Head.{Head}
 use Rattle.progress.specs.declared.Progress.{Progress}
 use Rattle.progress.specs.Steps.{openOf, openNumber, progressOf, total, firstOf, refusalOf}
@@ -97,7 +98,8 @@ pub no-kind : (kind : ℕ) → 10 ≤ kind → kindOf kind ≡ none
 unfolding kindOf
 no-kind kind high =
     let other : (k : ℕ) → k < 10 → eqb kind k ≡ false = λ k low. ne-eqb kind k (λ e. omega arith) in
-    rw (other 1 (omega arith), other 2 (omega arith), other 3 (omega arith), other 4 (omega arith), other 5 (omega arith), other 6 (omega arith), other 7 (omega arith), other 8 (omega arith), other 9 (omega arith))
+    rw (other 1 (omega arith), other 2 (omega arith), other 3 (omega arith), other 4 (omega arith), other 5 (omega arith), other 6 (omega arith))
+    (rw (other 7 (omega arith), other 8 (omega arith), other 9 (omega arith)))
 
 -- one kind's tests give the refusal of a record of that kind
 module _ (h : Head) (g : Progress) (kind p q : ℕ) (k : Kind) (is : kindOf kind ≡ k) where
@@ -118,7 +120,8 @@ onward-closes kind g low high =
     step (suc (suc d)) h = absurd (omega arith)
 
 -- kinds that neither open nor close change nothing
-pub onward-same : (kind : ℕ) (g : Check.Progress) → (kind ≡ 1 → ⊥) → (kind ≡ 2 → ⊥) → (kind ≡ 3 → ⊥) → (kind ≡ 8 → ⊥) → (kind ≡ 9 → ⊥) → g ≡ onward (kindOf kind) g
+pub onward-same : (kind : ℕ) (g : Check.Progress) → (kind ≡ 1 → ⊥) → (kind ≡ 2 → ⊥) → (kind ≡ 3 → ⊥) → (kind ≡ 8 → ⊥) → (kind ≡ 9 → ⊥)
+    → g ≡ onward (kindOf kind) g
 unfolding kindOf
 onward-same kind g n1 n2 n3 n8 n9 =
     rw (ne-eqb kind 1 n1, ne-eqb kind 2 n2, ne-eqb kind 3 n3, ne-eqb kind 8 n8, ne-eqb kind 9 n9) (step (eqb kind 4) (eqb kind 5) (eqb kind 6) (eqb kind 7))
@@ -132,7 +135,8 @@ onward-same kind g n1 n2 n3 n8 n9 =
     step false false false false = refl
 
 -- 12 of kind 3, whose tests stand in another order
-pub opens-x-turn : (h : Head) (g : Progress) (p : ℕ) → within p (g .y) && eqb (p + g .x) (h .order) ≡ inTurn (h .order) (h .coefficients) (h .slots) (opens X) p 0 (progressOf g)
+pub opens-x-turn : (h : Head) (g : Progress) (p : ℕ)
+    → within p (g .y) && eqb (p + g .x) (h .order) ≡ inTurn (h .order) (h .coefficients) (h .slots) (opens X) p 0 (progressOf g)
 unfolding inTurn
 opens-x-turn h g p = between (ltb 0 p) (eqb (p + g .x) (h .order)) (leb p (g .y))
   where

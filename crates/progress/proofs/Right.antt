@@ -54,7 +54,8 @@ wrong-when true true t e = absurd (true≢false e)
 
 -- kinds other than 1 to 3 while nothing is open; kinds other than 7 to 9 while one of table u is
 unordered-idle : (p q : ℕ) (four five six seven eight nine : Bool)
-    → let k = cond four (subtracts C) (cond five (subtracts Y) (cond six (subtracts X) (cond seven divides (cond eight closes (cond nine closesPivot none))))) in
+    → let k = cond four (subtracts C) (cond five (subtracts Y) (cond six (subtracts X)
+    (cond seven divides (cond eight closes (cond nine closesPivot none))))) in
     inOrder k idle && formed k p q ≡ false
 unfolding inOrder formed
 unordered-idle p q true five six seven eight nine = refl
@@ -67,7 +68,8 @@ unordered-idle p q false false false false false false = refl
 
 unordered-busy : (p q : ℕ) (u : Table) (one two three four five six : Bool)
     → (four ≡ true → sameTable C u ≡ false) → (five ≡ true → sameTable Y u ≡ false) → (six ≡ true → sameTable X u ≡ false)
-    → let k = cond one (opens C) (cond two (opens Y) (cond three (opens X) (cond four (subtracts C) (cond five (subtracts Y) (cond six (subtracts X) none))))) in
+    → let k = cond one (opens C) (cond two (opens Y) (cond three (opens X)
+    (cond four (subtracts C) (cond five (subtracts Y) (cond six (subtracts X) none))))) in
     inOrder k (busy u) && formed k p q ≡ false
 unfolding inOrder formed
 unordered-busy p q u true two three four five six n4 n5 n6 = refl
@@ -92,7 +94,9 @@ module _ (h : Head) (g : Progress) (kind p q : ℕ) where
   idle-wrong is n1 n2 n3 = wrong is (others n1 n2 n3)
     where
       others : (kind ≡ 1 → ⊥) → (kind ≡ 2 → ⊥) → (kind ≡ 3 → ⊥) → inOrder (kindOf kind) idle && formed (kindOf kind) p q ≡ false
-      others n1 n2 n3 = rw (ne-eqb kind 1 n1, ne-eqb kind 2 n2, ne-eqb kind 3 n3) (unordered-idle p q (eqb kind 4) (eqb kind 5) (eqb kind 6) (eqb kind 7) (eqb kind 8) (eqb kind 9))
+      others n1 n2 n3 =
+          rw (ne-eqb kind 1 n1, ne-eqb kind 2 n2, ne-eqb kind 3 n3)
+          (unordered-idle p q (eqb kind 4) (eqb kind 5) (eqb kind 6) (eqb kind 7) (eqb kind 8) (eqb kind 9))
 
   -- while one is open, only 7 to 9 and the products of its table are right
   pub busy-wrong : (u : Table) → openOf (g .target) ≡ busy u → (kind ≡ 7 → ⊥) → (kind ≡ 8 → ⊥) → (kind ≡ 9 → ⊥) → (kind ≡ numberOf u + 3 → ⊥)

@@ -38,7 +38,8 @@ firstOf true true true = 0
 -- the number of the refusal of a record of any kind, 0 if none, by record 0's N, n and s
 abbrev pub refusalOf : Head → Progress → ℕ → ℕ → ℕ → ℕ
 refusalOf h g kind p q =
-    firstOf (formed (kindOf kind) p q) (inOrder (kindOf kind) (openOf (g .target))) (inTurn (h .order) (h .coefficients) (h .slots) (kindOf kind) p q (progressOf g))
+    firstOf (formed (kindOf kind) p q) (inOrder (kindOf kind) (openOf (g .target)))
+    (inTurn (h .order) (h .coefficients) (h .slots) (kindOf kind) p q (progressOf g))
 
 -- none of 10 to 12 refuses the record
 abbrev pub rightIn : Head → Progress → ℕ → ℕ → ℕ → Bool

@@ -26,7 +26,9 @@ add-if2 : tie.Need-add-if2
 add-if2 c = omega (arith, c .before .open-number .ensures, number-few (openOf (c .before .before .args .g .target)))
 
 readable-requires : tie.Need-readable-requires
-readable-requires c κs = omega (arith, c .if2 .taken, c .before .if1 .left, c .before .before .open-number .ensures, number-few (openOf (c .before .before .before .args .g .target)))
+readable-requires c κs =
+    let n = c .before .before in
+    omega (arith, c .if2 .taken, c .before .if1 .left, n .open-number .ensures, number-few (openOf (n .before .args .g .target)))
 
 returns-2 : tie.Need-returns-2
 unfolding formed
@@ -43,7 +45,9 @@ returns-2 c =
 
 -- something is open
 open-now : (c : tie.Else1) → true ≡ not (isIdle (openOf (c .before .before .args .g .target)))
-open-now c = sym (ap not (ne-eqb _ 0 (c .if1 .left))) ∙ ap (λ m. not (eqb m 0)) (c .before .open-number .ensures) ∙ ap not (idle-number (openOf (c .before .before .args .g .target)))
+open-now c =
+    sym (ap not (ne-eqb _ 0 (c .if1 .left))) ∙ ap (λ m. not (eqb m 0)) (c .before .open-number .ensures)
+    ∙ ap not (idle-number (openOf (c .before .before .args .g .target)))
 
 within-requires : tie.Need-within-requires
 within-requires c κs = search needs
@@ -53,7 +57,8 @@ unfolding kindOf formed inTurn
 returns-3 c =
     let e = c .before .before .before .before in
     let a = e .before .before .args in
-    right-arm (a .h) (a .g) (a .kind) (a .p) (a .q) divides (ap kindOf (c .before .before .if3 .taken)) (sym (eq-eqb _ 0 (c .before .if4 .taken))) (open-now e ∙ divides-order _) (c .within .ensures)
+    right-arm (a .h) (a .g) (a .kind) (a .p) (a .q) divides (ap kindOf (c .before .before .if3 .taken)) (sym (eq-eqb _ 0 (c .before .if4 .taken)))
+    (open-now e ∙ divides-order _) (c .within .ensures)
 
 returns-4 : tie.Need-returns-4
 unfolding kindOf formed
@@ -71,10 +76,15 @@ unfolding kindOf formed inTurn
 returns-5 c =
     let e = c .before .before .before .before in
     let a = e .before .before .args in
-    and-comm true _ ∙ right-arm (a .h) (a .g) (a .kind) (a .p) (a .q) closes (ap kindOf (c .before .if5 .taken)) (c .unused .ensures) (open-now e ∙ closes-order _) refl
+    and-comm true _ ∙ right-arm (a .h) (a .g) (a .kind) (a .p) (a .q) closes (ap kindOf (c .before .if5 .taken)) (c .unused .ensures)
+    (open-now e ∙ closes-order _) refl
 
 unused-requires-2 : tie.Need-unused-requires-2
 unused-requires-2 c κs = search needs
+
+-- at kind 9: where it is known what is open
+abbrev numbered : tie.Then6 → tie.After-open-number
+numbered c = c .before .before .before .before .before
 
 -- 11 of kind 9
 pivot-now : (c : tie.After-open-number) → eqb (c .open-number .result) 1 ≡ inOrder closesPivot (openOf (c .before .args .g .target))
@@ -83,7 +93,7 @@ pivot-now c = ap (λ m. eqb m 1) (c .open-number .ensures) ∙ pivot-order _
 returns-6 : tie.Need-returns-6
 unfolding kindOf formed inTurn
 returns-6 c =
-    let n = c .before .before .before .before .before .before .before in
+    let n = numbered (c .before .before) in
     let a = n .before .args in
     and-comm true _ ∙ right-arm (a .h) (a .g) (a .kind) (a .p) (a .q) closesPivot (ap kindOf (c .before .before .if6 .taken)) (c .unused2 .ensures)
     (sym (eq-eqb _ 1 (c .before .if7 .taken)) ∙ pivot-now n) refl
@@ -91,17 +101,19 @@ returns-6 c =
 returns-7 : tie.Need-returns-7
 unfolding kindOf formed inTurn
 returns-7 c =
-    let n = c .before .before .before .before .before .before in
+    let n = numbered (c .before) in
     let a = n .before .args in
     let other = ne-eqb _ 1 (c .if7 .left) in
-    other ∙ sym (and-false (formed closesPivot (a .p) (a .q))) ∙ right-arm (a .h) (a .g) (a .kind) (a .p) (a .q) closesPivot (ap kindOf (c .before .if6 .taken)) refl (sym other ∙ pivot-now n) refl
+    other ∙ sym (and-false (formed closesPivot (a .p) (a .q)))
+    ∙ right-arm (a .h) (a .g) (a .kind) (a .p) (a .q) closesPivot (ap kindOf (c .before .if6 .taken)) refl (sym other ∙ pivot-now n) refl
 
 returns-8 : tie.Need-returns-8
 returns-8 c =
     let e = c .before .before .before .before in
     let a = e .before .before .args in
     let b = is-busy (openOf (a .g .target)) (λ none. e .if1 .left (e .before .open-number .ensures ∙ none)) in
-    ne-eqb _ 9 (c .if6 .left) ∙ busy-wrong (a .h) (a .g) (a .kind) (a .p) (a .q) (b .table) (b .is) (c .before .before .if3 .left) (c .before .if5 .left) (c .if6 .left)
+    ne-eqb _ 9 (c .if6 .left)
+    ∙ busy-wrong (a .h) (a .g) (a .kind) (a .p) (a .q) (b .table) (b .is) (c .before .before .if3 .left) (c .before .if5 .left) (c .if6 .left)
     (λ same. c .before .before .before .if2 .left (same ∙ ap (λ m. m + 3) (ap openNumber (sym (b .is)) ∙ sym (e .before .open-number .ensures))))
 
 pub is-right-spec : {M : Type 1} → statement M

@@ -7,7 +7,8 @@ use lib.Dec.{eqb, lit≤}
 use Rattle.model.specs.Formula.{C, Y, X}
 use Rattle.model.specs.Check.{opens, subtracts, divides, closes, closesPivot, kindOf, formed, inOrder, inTurn, isIdle}
 use Rattle.progress.specs.Steps.{openOf, progressOf, firstOf, refusalOf}
-use Rattle.progress.proofs.Judging.{idle-number, opens-order, divides-order, closes-order, subtracts-order, pivot-order, subtracting, above, no-kind, arm}
+use Rattle.progress.proofs.Judging.{idle-number, opens-order, divides-order, closes-order, subtracts-order, pivot-order}
+use Rattle.progress.proofs.Judging.{subtracting, above, no-kind, arm}
 use borrow.Author.Needs.{needs}
 use Rattle.progress.proofs.judge.Statement.{statement}
 use Rattle.progress.proofs.judge.Tie as tie

@@ -32,7 +32,8 @@ unfolding kindOf formed inTurn
 returns-2 c =
     let s = c .before .before .before .before in
     let a = s .args in
-    right-arm (a .h) (a .g) (a .kind) (a .p) (a .q) (opens Y) (ap kindOf (c .before .before .if2 .taken)) (sym (eq-eqb _ 0 (c .before .if3 .taken))) (ordered s Y) (c .turn-of-y .ensures)
+    right-arm (a .h) (a .g) (a .kind) (a .p) (a .q) (opens Y) (ap kindOf (c .before .before .if2 .taken)) (sym (eq-eqb _ 0 (c .before .if3 .taken)))
+    (ordered s Y) (c .turn-of-y .ensures)
 
 returns-3 : tie.Need-returns-3
 unfolding kindOf formed
@@ -50,7 +51,8 @@ unfolding kindOf formed inTurn
 returns-4 c =
     let s = c .before .before .before .before .before in
     let a = s .args in
-    right-arm (a .h) (a .g) (a .kind) (a .p) (a .q) (opens X) (ap kindOf (c .before .before .if4 .taken)) (sym (eq-eqb _ 0 (c .before .if5 .taken))) (ordered s X) (c .turn-of-x .ensures)
+    right-arm (a .h) (a .g) (a .kind) (a .p) (a .q) (opens X) (ap kindOf (c .before .before .if4 .taken)) (sym (eq-eqb _ 0 (c .before .if5 .taken)))
+    (ordered s X) (c .turn-of-x .ensures)
 
 returns-5 : tie.Need-returns-5
 unfolding kindOf formed

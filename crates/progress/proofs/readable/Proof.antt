@@ -6,7 +6,8 @@ use native.Mathlib.Omega.{arith}
 use lib.Dec.{ltb}
 use borrow.Author.Tests.{not-true, not-false}
 use Rattle.model.specs.Formula.{C, Y, X}
-use Rattle.model.specs.Check.{kindOf}
+use Rattle.model.specs.Check.{kindOf, inTurn}
+use Rattle.progress.specs.Steps.{progressOf}
 use Rattle.model.proofs.Within.{within-range}
 use Rattle.progress.proofs.Judging.{subtracting, readable-is, closed-x}
 use borrow.Author.Needs.{needs}
@@ -50,23 +51,23 @@ returns-3 c =
     readable-is (a .h) (a .g) (a .kind) (a .p) (a .q) Y (ap kindOf (c .before .match .keys2))
     (sym (not-false _ (c .before .before .if1 .left)) ∙ c .before .before .before .within .ensures) (c .within3 .ensures)
 
-returns-4 : tie.Need-returns-4
+-- the test of the last arm, which is kind 6
+of-x : (c : tie.After-within4) → let a = c .before .before .before .before .args in
+    c .within4 .result && ltb (a .h .order - a .q) (a .g .x)
+    ≡ inTurn (a .h .order) (a .h .coefficients) (a .h .slots) (kindOf (a .kind)) (a .p) (a .q) (progressOf (a .g))
 unfolding kindOf
-returns-4 c =
-    let a = c .before .before .before .before .before .before .before .args in
-    let w = c .before .before .before in
-    let six : a .kind ≡ 6 = omega (arith, w .before .match .rest) in
-    readable-is (a .h) (a .g) (a .kind) (a .p) (a .q) X (ap kindOf six) (sym (not-false _ (w .before .before .if1 .left)) ∙ w .before .before .before .within .ensures)
-    (ap (λ v. v && ltb (a .h .order - a .q) (a .g .x)) (sym (c .before .before .if2 .taken) ∙ w .within4 .ensures) ∙ closed-x (a .h .order) (a .g .x) (a .q))
+of-x c =
+    let a = c .before .before .before .before .args in
+    let six : a .kind ≡ 6 = omega (arith, c .before .match .rest) in
+    readable-is (a .h) (a .g) (a .kind) (a .p) (a .q) X (ap kindOf six)
+    (sym (not-false _ (c .before .before .if1 .left)) ∙ c .before .before .before .within .ensures)
+    (ap (λ v. v && ltb (a .h .order - a .q) (a .g .x)) (c .within4 .ensures) ∙ closed-x (a .h .order) (a .g .x) (a .q))
+
+returns-4 : tie.Need-returns-4
+returns-4 c = rw (c .before .before .if2 .taken) at (of-x (c .before .before .before))
 
 returns-5 : tie.Need-returns-5
-unfolding kindOf
-returns-5 c =
-    let a = c .before .before .before .before .before .args in
-    let w = c .before in
-    let six : a .kind ≡ 6 = omega (arith, w .before .match .rest) in
-    readable-is (a .h) (a .g) (a .kind) (a .p) (a .q) X (ap kindOf six) (sym (not-false _ (w .before .before .if1 .left)) ∙ w .before .before .before .within .ensures)
-    (c .if2 .left ∙ ap (λ v. v && ltb (a .h .order - a .q) (a .g .x)) (sym (c .if2 .left) ∙ w .within4 .ensures) ∙ closed-x (a .h .order) (a .g .x) (a .q))
+returns-5 c = c .if2 .left ∙ rw (c .if2 .left) at (of-x (c .before))
 
 pub readable-spec : {M : Type 1} → statement M
 readable-spec =
