@@ -60,7 +60,8 @@ pub record Turn (h : Head) (W : List ℕ) (g : Progress) (k n r : ℕ) : Type 0 
 -- the check of a chain is its first record's, and then the rest
 link-judged : (N n s : ℕ) (g : Check.Progress) (l : Link) (ls : List Link) (e : End) → let k = kindOf (l .at .kind) in
     checkLinks N n s g (l ∷ ls) e
-    ≡ unless (firstOf (formed k (l .at .p) (l .at .q)) (inOrder k (g .target)) (inTurn N n s k (l .at .p) (l .at .q) g)) (l .index) (checkLinks N n s (onward k g) ls e)
+    ≡ unless (firstOf (formed k (l .at .p) (l .at .q)) (inOrder k (g .target)) (inTurn N n s k (l .at .p) (l .at .q) g)) (l .index)
+    (checkLinks N n s (onward k g) ls e)
 unfolding firstOf
 link-judged N n s g l ls e =
     let k = kindOf (l .at .kind) in
@@ -68,7 +69,10 @@ link-judged N n s g l ls e =
   where
     step : (f o t : Bool) → elim f [
       | false ↦ refusal 10 (l .index)
-      | true ↦ elim o [ false ↦ refusal 11 (l .index) | true ↦ elim t [ false ↦ refusal 12 (l .index) | true ↦ checkLinks N n s (onward (kindOf (l .at .kind)) g) ls e ] ]
+      | true ↦ elim o [
+        | false ↦ refusal 11 (l .index)
+        | true ↦ elim t [ false ↦ refusal 12 (l .index) | true ↦ checkLinks N n s (onward (kindOf (l .at .kind)) g) ls e ]
+      ]
     ] ≡ unless (firstOf f o t) (l .index) (checkLinks N n s (onward (kindOf (l .at .kind)) g) ls e)
     step false o t = refl
     step true false t = refl
@@ -104,7 +108,8 @@ module _ (h : Head) (W : List ℕ) where
   module _ (g : Progress) (k n r : ℕ) (t : Turn h W g k n r) where
     turned : followed h W ≡ unless r n (rest h W (onward (kindOf (word W (4 * n))) (progressOf g)) n)
     turned =
-        subst (λ m. followed h W ≡ unless (refusalOf h g (word W (4 * m)) (word W (4 * m + 1)) (word W (4 * m + 2))) m (rest h W (onward (kindOf (word W (4 * m))) (progressOf g)) m))
+        subst (λ m. followed h W ≡ unless (refusalOf h g (word W (4 * m)) (word W (4 * m + 1)) (word W (4 * m + 2))) m
+        (rest h W (onward (kindOf (word W (4 * m))) (progressOf g)) m))
         (sym (t .is)) (links g k (t .here) (omega arith) (omega arith))
         ∙ ap (λ r. unless r n (rest h W (onward (kindOf (word W (4 * n))) (progressOf g)) n)) (sym (t .refusal-is))
 

@@ -31,7 +31,8 @@ check-is : (W : List ℕ) → whole (countFits (length W)) (headFits (word W 0) 
 unfolding check
 check-is W = step (countFits (length W)) (headFits (word W 0) (word W 1) (word W 2)) (followed (headOf W) W)
   where
-    step : (counts heads : Bool) (v : Verdict) → whole counts heads v ≡ elim counts [ false ↦ refusal 7 0 | true ↦ elim heads [ false ↦ refusal 8 0 | true ↦ v ] ]
+    step : (counts heads : Bool) (v : Verdict)
+        → whole counts heads v ≡ elim counts [ false ↦ refusal 7 0 | true ↦ elim heads [ false ↦ refusal 8 0 | true ↦ v ] ]
     step false heads v = refl
     step true false v = refl
     step true true v = refl
@@ -41,7 +42,9 @@ refused-7 W e = ap (λ b. whole b (headFits (word W 0) (word W 1) (word W 2)) (f
 
 module _ (h : Head) (W : List ℕ) (at : h ≡ headOf W) (fits : countFits (length W) ≡ true) where
   checked : {heads : Bool} → headFits (h .order) (h .coefficients) (h .slots) ≡ heads → whole true heads (followed h W) ≡ check W
-  checked e = ap (λ b. whole true b (followed h W)) (sym e) ∙ ap₂ (λ b h. whole b (headFits (h .order) (h .coefficients) (h .slots)) (followed h W)) (sym fits) at ∙ check-is W
+  checked e =
+      ap (λ b. whole true b (followed h W)) (sym e)
+      ∙ ap₂ (λ b h. whole b (headFits (h .order) (h .coefficients) (h .slots)) (followed h W)) (sym fits) at ∙ check-is W
 
   pub refused-8 : headFits (h .order) (h .coefficients) (h .slots) ≡ false → refusal 8 0 ≡ check W
   refused-8 = checked

@@ -2,6 +2,7 @@
 -- record k names next. The measures are the records above k and above next.
 use Prim.Native.Nat.{ℕ, _+_, _-_, _*_, _/_, _≤_, _<_}
 use mathlib.Core.Path.{_≡_, sym, ap, _∙_}
+use mathlib.Core.List.{List}
 use native.Mathlib.Omega.{arith}
 use borrow.Author.Needs.{needs}
 use borrow.Author.Tests.{not-true, not-false, eqb-true, eqb-false}
@@ -24,6 +25,20 @@ Inv-loop words bytes filed h records g₀ k₀ g k = Going h (content filed word
 abbrev μ-loop : tie.MeasureT-loop
 μ-loop words bytes filed h records g₀ k₀ g k = records - k
 
+-- Places of the code: where the inner loop has read a record, with the entry before it, and where the progress after the record is known.
+abbrev Reading : Type 0
+Reading = tie.After-record-at2 Inv-loop2 μ-loop2 Inv-loop μ-loop
+
+abbrev entry : Reading → tie.Start Inv-loop2 μ-loop2 Inv-loop μ-loop
+entry c = c .before .before .before .before .before .before .before .before .before .before .before
+
+abbrev reading : tie.After-onward Inv-loop2 μ-loop2 Inv-loop μ-loop → Reading
+reading c = c .before .before .before
+
+-- the program's words
+abbrev program : tie.Start Inv-loop2 μ-loop2 Inv-loop μ-loop → List ℕ
+program s = content (s .args .filed) (s .args .words .now) (s .args .bytes .now)
+
 begun-requires : tie.Need-begun-requires Inv-loop2 μ-loop2 Inv-loop μ-loop
 begun-requires c κs = search needs
 
@@ -40,8 +55,8 @@ at-end-requires : tie.Need-at-end-requires Inv-loop2 μ-loop2 Inv-loop μ-loop
 at-end-requires c κs = search needs
 
 -- the next index that record k names, as it was read
-next : (c : tie.After-wide Inv-loop2 μ-loop2 Inv-loop μ-loop) → let a = c .before .before .before .before .before .before .args in
-    c .wide .result ≡ nextOf (content (a .filed) (a .words .now) (a .bytes .now)) (c .before .before .loop .k)
+next : (c : tie.After-wide Inv-loop2 μ-loop2 Inv-loop μ-loop)
+    → c .wide .result ≡ nextOf (program (c .before .before .before .before .before .before)) (c .before .before .loop .k)
 next c = c .wide .ensures ∙ ap (λ r. r .next) (c .before .record-at .ensures)
 
 returns : tie.Need-returns Inv-loop2 μ-loop2 Inv-loop μ-loop
@@ -77,21 +92,23 @@ judge-requires : tie.Need-judge-requires Inv-loop2 μ-loop2 Inv-loop μ-loop
 judge-requires c κs = omega arith
 
 -- the refusal of the next record, or 0
-abbrev refusal-now : (c : tie.After-record-at2 Inv-loop2 μ-loop2 Inv-loop μ-loop) → ℕ
+abbrev refusal-now : Reading → ℕ
 refusal-now c =
-    let a = c .before .before .before .before .before .before .before .before .before .before .before .args in
     let r = c .record-at2 .result in
-    refusalOf (a .h) (c .before .loop2 .g) (r .kind) (r .p) (r .q)
+    refusalOf (entry c .args .h) (c .before .loop2 .g) (r .kind) (r .p) (r .q)
 
 -- the next record and its refusal
-turn : (c : tie.After-record-at2 Inv-loop2 μ-loop2 Inv-loop μ-loop)
-    → let a = c .before .before .before .before .before .before .before .before .before .before .before .args in let l = c .before .loop2 in
-    Turn (a .h) (content (a .filed) (a .words .now) (a .bytes .now)) (l .g) (l .k) (l .next) (refusal-now c)
+turn : (c : Reading) → let l = c .before .loop2 in Turn (entry c .args .h) (program (entry c)) (l .g) (l .k) (l .next) (refusal-now c)
 turn c =
     let l = c .before .loop2 in
-    let h = c .before .before .before .before .before .before .before .before .before .before .before .args .h in
     let f = l .inv .2 in
-    record { here = f .here; is = f .is; up = f .up; low = f .low; refusal-is = ap (λ r. refusalOf h (l .g) (r .kind) (r .p) (r .q)) (c .record-at2 .ensures) }
+    record {
+      here = f .here;
+      is = f .is;
+      up = f .up;
+      low = f .low;
+      refusal-is = ap (λ r. refusalOf (entry c .args .h) (l .g) (r .kind) (r .p) (r .q)) (c .record-at2 .ensures);
+    }
 
 returns-3 : tie.Need-returns-3 Inv-loop2 μ-loop2 Inv-loop μ-loop
 returns-3 c =
@@ -103,10 +120,10 @@ onward-requires : tie.Need-onward-requires Inv-loop2 μ-loop2 Inv-loop μ-loop
 onward-requires c κs = omega arith
 
 -- after that record
-arrived : (o : tie.After-onward Inv-loop2 μ-loop2 Inv-loop μ-loop) → let a = o .before .before .before .before .before .before .before .before .before .before .before .before .before .before .args in
-    Going (a .h) (content (a .filed) (a .words .now) (a .bytes .now)) (o .onward .result) (o .before .before .before .before .loop2 .next)
+arrived : (o : tie.After-onward Inv-loop2 μ-loop2 Inv-loop μ-loop) → let start = entry (reading o) in
+    Going (start .args .h) (program start) (o .onward .result) (reading o .before .loop2 .next)
 arrived o =
-    let read = o .before .before .before in
+    let read = reading o in
     let right = sym (o .before .before .is-right .ensures) ∙ not-false _ (o .before .if3 .left) in
     goes-on _ _ _ _ _ _ (turn read) (eqb-true (refusal-now read) 0 right) (o .onward .result)
     (o .onward .ensures ∙ ap (λ r. onward (kindOf (r .kind)) (progressOf (read .before .loop2 .g))) (read .record-at2 .ensures))
@@ -115,7 +132,7 @@ nearer : (records k₀ k next : ℕ) → k₀ ≤ k → k < next → next < reco
 nearer records k₀ k next from up low = omega arith
 
 loop-less : tie.Need-loop-less Inv-loop2 μ-loop2 Inv-loop μ-loop
-loop-less c = let l = c .before .before .before .before .before .loop2 in nearer _ _ _ _ (l .inv .0) (l .inv .2 .up) (l .inv .1)
+loop-less c = let l = reading (c .before) .before .loop2 in nearer _ _ _ _ (l .inv .0) (l .inv .2 .up) (l .inv .1)
 
 loop-again : tie.Need-loop-again Inv-loop2 μ-loop2 Inv-loop μ-loop
 loop-again c = arrived (c .before)
@@ -140,12 +157,16 @@ inside records words n size below = omega arith
 
 loop2-again : tie.Need-loop2-again Inv-loop2 μ-loop2 Inv-loop μ-loop
 loop2-again c =
-    let read = c .before .wide2 .ensures ∙ ap (λ r. r .next) (c .before .before .before .before .before .before .record-at2 .ensures) in
-    let l = c .before .before .before .before .before .before .before .loop2 in
-    let start = c .before .before .before .before .before .before .before .before .before .before .before .before .before .before .before .before .before in (
-      omega (arith, l .inv .0, l .inv .2 .up),
+    let read = reading (c .before .before .before) in
+    let l = read .before .loop2 .inv in (
+      omega (arith, l .0, l .2 .up),
       omega arith,
-      record { here = arrived (c .before .before .before); is = sym (c .if5 .left) ∙ read; up = one-more _; low = inside _ _ _ (start .pre .1 .1) (omega arith) },
+      record {
+        here = arrived (c .before .before .before);
+        is = sym (c .if5 .left) ∙ c .before .wide2 .ensures ∙ ap (λ r. r .next) (read .record-at2 .ensures);
+        up = one-more _;
+        low = inside _ _ _ (entry read .pre .1 .1) (omega arith);
+      },
     )
 
 pub follow-spec : {M : Type 1} → statement M

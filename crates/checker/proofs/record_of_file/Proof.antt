@@ -33,7 +33,8 @@ word-at-requires-4 c κs = omega (arith, words-length (c .before .before .before
 returns : tie.Need-returns
 returns c =
     let a = c .before .before .before .before .before .args in
-    record-is (wordsOf (a .bytes .now)) (a .k) (c .before .before .before .word-at .ensures) (c .before .before .word-at2 .ensures) (c .before .word-at3 .ensures) (c .word-at4 .ensures)
+    record-is (wordsOf (a .bytes .now)) (a .k) (c .before .before .before .word-at .ensures) (c .before .before .word-at2 .ensures)
+    (c .before .word-at3 .ensures) (c .word-at4 .ensures)
 
 pub record-of-file-spec : {M : Type 1} → statement M
 record-of-file-spec =

@@ -6,6 +6,10 @@ use borrow.Author.Needs.{needs}
 use Rattle.checker.proofs.word_at.Statement.{statement}
 use Rattle.checker.proofs.word_at.Tie as tie
 
+-- Places of the code: the entry, seen from where all four bytes are read.
+abbrev entry : tie.After-byte4 → tie.Start
+entry c = c .before .before .before .before .before .before .before .before .before
+
 mul-at : tie.Need-mul-at
 mul-at c = search needs
 
@@ -65,9 +69,10 @@ four ea eb ec ed = cc
 
 returns : tie.Need-returns
 returns c =
-    let start = c .before .before .before .before .before .before .before .before .before in
-    four (c .before .before .before .before .before .before .byte .ensures .0) (c .before .before .before .before .byte2 .ensures .0) (c .before .before .byte3 .ensures .0) (c .byte4 .ensures .0)
-    ∙ sym (word-read (start .args .bytes .now) (start .args .i) (start .pre))
+    let a = entry c .args in
+    four (c .before .before .before .before .before .before .byte .ensures .0) (c .before .before .before .before .byte2 .ensures .0)
+    (c .before .before .byte3 .ensures .0) (c .byte4 .ensures .0)
+    ∙ sym (word-read (a .bytes .now) (a .i) (entry c .pre))
 
 pub word-at-spec : {M : Type 1} → statement M
 word-at-spec =
