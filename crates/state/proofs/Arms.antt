@@ -25,9 +25,12 @@ pub allowed-as : {la lb lc ly lx : ℕ} {z : State} {k k′ : Kind} {p q : ℕ} 
 allowed-as {la = la} {lc = lc} {ly = ly} {lx = lx} {z = z} {p = p} {q = q} ready e = subst (λ k. Allowed la lc ly lx z k p q) e (ready .allowed)
 
 -- no kind but 1 to 9
-pub no-kind : (k : ℕ) → (k ≡ 1 → ⊥) → (k ≡ 2 → ⊥) → (k ≡ 3 → ⊥) → (k ≡ 4 → ⊥) → (k ≡ 5 → ⊥) → (k ≡ 6 → ⊥) → (k ≡ 7 → ⊥) → (k ≡ 8 → ⊥) → (k ≡ 9 → ⊥) → kindOf k ≡ none
+pub no-kind : (k : ℕ) → (k ≡ 1 → ⊥) → (k ≡ 2 → ⊥) → (k ≡ 3 → ⊥) → (k ≡ 4 → ⊥) → (k ≡ 5 → ⊥)
+    → (k ≡ 6 → ⊥) → (k ≡ 7 → ⊥) → (k ≡ 8 → ⊥) → (k ≡ 9 → ⊥) → kindOf k ≡ none
 unfolding kindOf
-no-kind k a b c d e f g h i = rw (kindOf, ne-eqb k 1 a, ne-eqb k 2 b, ne-eqb k 3 c, ne-eqb k 4 d, ne-eqb k 5 e, ne-eqb k 6 f, ne-eqb k 7 g, ne-eqb k 8 h, ne-eqb k 9 i)
+no-kind k a b c d e f g h i =
+    rw (kindOf, ne-eqb k 1 a, ne-eqb k 2 b, ne-eqb k 3 c, ne-eqb k 4 d, ne-eqb k 5 e)
+    (rw (ne-eqb k 6 f, ne-eqb k 7 g, ne-eqb k 8 h, ne-eqb k 9 i))
 
 module _ (A B c y x : List Float) (z : State) (sound : Sound (length c) (length y) (length x) z) where
   -- r with the tables c′, y′ and x′ is what a record of kind k gives
@@ -36,7 +39,8 @@ module _ (A B c y x : List Float) (z : State) (sound : Sound (length c) (length 
 
   -- an answer steps as the model's does, if the states after it are the model's
   answer-gives : (a : Answer) (f : Float → State) (g : Float → Run.State) → ((v : Float) → stateOf (f v) c y x ≡ g v)
-      → ((v : Float) → Sound (length c) (length y) (length x) (f v)) → (steppedOf (answered a f) c y x ≡ Run.settledStep a g) × SoundStep (length c) (length y) (length x) (answered a f)
+      → ((v : Float) → Sound (length c) (length y) (length x) (f v))
+      → (steppedOf (answered a f) c y x ≡ Run.settledStep a g) × SoundStep (length c) (length y) (length x) (answered a f)
   answer-gives (number v) f g same still = (ap Run.going (same v), still v)
   answer-gives overflow f g same still = (refl, tt)
   answer-gives zeroDivisor f g same still = (refl, tt)

@@ -68,11 +68,13 @@ module _ (z : State) (c y x : List Float) where
   pub free-in : {t : Table} → tableOf (z .table) ≡ t → Free (length c) (length y) (length x) z → FreeIn (length c) (length y) (length x) z t
   free-in e h = subst (FreeIn (length c) (length y) (length x) z) e h
 
-  pub close-c : tableOf (z .table) ≡ C → z .c < length c → stateOf (counting (z .c + 1) (z .y) (z .x)) (set c (z .c) (z .running)) y x ≡ Run.closing (stateOf z c y x)
+  pub close-c : tableOf (z .table) ≡ C → z .c < length c
+      → stateOf (counting (z .c + 1) (z .y) (z .x)) (set c (z .c) (z .running)) y x ≡ Run.closing (stateOf z c y x)
   unfolding closed
   close-c e h = rw (e, closed, add-one, take-suc-set)
 
-  pub close-y : tableOf (z .table) ≡ Y → z .y < length y → stateOf (counting (z .c) (z .y + 1) (z .x)) c (set y (z .y) (z .running)) x ≡ Run.closing (stateOf z c y x)
+  pub close-y : tableOf (z .table) ≡ Y → z .y < length y
+      → stateOf (counting (z .c) (z .y + 1) (z .x)) c (set y (z .y) (z .running)) x ≡ Run.closing (stateOf z c y x)
   unfolding closed
   close-y e h = rw (e, closed, add-one, take-suc-set)
 

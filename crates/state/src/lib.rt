@@ -76,7 +76,8 @@ impl State {
     // The open target takes the running number: C and Y close from the left, X from the right.
     fn close(mut self, c: &mut [f64], y: &mut [f64], x: &mut [f64]) -> State
         requires { ⌜ Sound (length (now c)) (length (now y)) (length (now x)) self × Free (length (now c)) (length (now y)) (length (now x)) self ⌝ }
-        ensures { λ r. ⌜ stateOf r (now (c .exit)) (now (y .exit)) (now (x .exit)) ≡ Run.closing (stateOf self (now (c .entry)) (now (y .entry)) (now (x .entry))) ⌝ }
+        ensures { λ r. ⌜ stateOf r (now (c .exit)) (now (y .exit)) (now (x .exit))
+            ≡ Run.closing (stateOf self (now (c .entry)) (now (y .entry)) (now (x .entry))) ⌝ }
         ensures { λ r. ⌜ Sound (length (now (c .entry))) (length (now (y .entry))) (length (now (x .entry))) r ⌝ }
     {
         let table = self.table;
@@ -136,7 +137,8 @@ pub fn step(
     x: &mut [f64],
 ) -> Stepped
     requires { ⌜ Ready (length (now a)) (length (now b)) (length (now c)) (length (now y)) (length (now x)) z (kindOf kind) p q ⌝ }
-    ensures { λ r. ⌜ steppedOf r (now (c .exit)) (now (y .exit)) (now (x .exit)) ≡ Run.step (now (a .entry)) (now (b .entry)) (stateOf z (now (c .entry)) (now (y .entry)) (now (x .entry))) (kindOf kind) p q ⌝ }
+    ensures { λ r. ⌜ steppedOf r (now (c .exit)) (now (y .exit)) (now (x .exit))
+        ≡ Run.step (now (a .entry)) (now (b .entry)) (stateOf z (now (c .entry)) (now (y .entry)) (now (x .entry))) (kindOf kind) p q ⌝ }
     ensures { λ r. ⌜ SoundStep (length (now (c .entry))) (length (now (y .entry))) (length (now (x .entry))) r ⌝ }
 {
     match kind {

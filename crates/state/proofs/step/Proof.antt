@@ -12,8 +12,15 @@ use Rattle.state.proofs.Arms.{allowed-as, no-kind, gives-open, gives-su
 use Rattle.state.proofs.step.Statement.{statement}
 use Rattle.state.proofs.step.Tie as tie
 
+-- Places of the code: the entry, seen from where the lent slices are known; and where kinds 8 and 9 have closed the target, seen from the end.
 abbrev start : tie.After-slice-known3 → tie.Start
 start c = c .before .before .before .before .before
+
+abbrev closed : tie.After-slice-known6 → tie.After-close
+closed c = c .before .before .before .before .before .before
+
+abbrev closed-pivot : tie.After-slice-known9 → tie.After-close2
+closed-pivot c = c .before .before .before .before .before .before
 
 coefficient-requires : tie.Need-coefficient-requires
 unfolding kindOf
@@ -150,7 +157,8 @@ returns-3 c =
     let a = s .args in
     let of = allowed-as (s .pre) (ap kindOf (c .before .before .before .match .keys3)) in
     gives-open (a .a .now) (a .b .now) (a .c .now) (a .y .now) (a .x .now) (a .z) (s .pre .sound) (kindOf (a .kind)) (a .p) (a .q) X (a .p) _ _ refl
-    (ap kindOf (c .before .before .before .match .keys3)) (c .open3 .ensures) (c .before .entry2 .ensures ∙ entry-y (a .z) (a .c .now) (a .y .now) (a .x .now) (a .p) of)
+    (ap kindOf (c .before .before .before .match .keys3)) (c .open3 .ensures)
+    (c .before .entry2 .ensures ∙ entry-y (a .z) (a .c .now) (a .y .now) (a .x .now) (a .p) of)
 
 same-length-2 : tie.Need-same-length-2
 same-length-2 c = search needs
@@ -210,7 +218,8 @@ returns-7 c =
     let a = s .args in
     let of = allowed-as (s .pre) (ap kindOf (c .before .before .before .match .keys7)) in
     gives-divide (a .a .now) (a .b .now) (a .c .now) (a .y .now) (a .x .now) (a .z) (s .pre .sound) (kindOf (a .kind)) (a .p) (a .q) _ _
-    (ap kindOf (c .before .before .before .match .keys7)) (c .divide .ensures) (c .before .entry9 .ensures ∙ entry-c (a .z) (a .c .now) (a .y .now) (a .x .now) (a .p) of)
+    (ap kindOf (c .before .before .before .match .keys7)) (c .divide .ensures)
+    (c .before .entry9 .ensures ∙ entry-c (a .z) (a .c .now) (a .y .now) (a .x .now) (a .p) of)
 
 same-length-8 : tie.Need-same-length-8
 same-length-8 c = search needs
@@ -224,8 +233,8 @@ same-length-10 c = search needs
 returns-8 : tie.Need-returns-8
 unfolding kindOf step
 returns-8 c =
-    let close = c .before .before .before .before .before .before .close in
-    rw (c .before .before .before .before .before .before .before .before .before .before .match .keys8) (ap going (close .ensures .0), close .ensures .1)
+    let close = closed c .close .ensures in
+    rw (closed c .before .before .before .before .match .keys8) (ap going (close .0), close .1)
 
 returns-9 : tie.Need-returns-9
 unfolding kindOf step
@@ -244,10 +253,9 @@ same-length-13 c = search needs
 returns-10 : tie.Need-returns-10
 unfolding kindOf step
 returns-10 c =
-    let close = c .before .before .before .before .before .before .close2 in
-    let not-zero = sym (c .before .before .before .before .before .before .before .before .before .before .before .is-zero .ensures)
-    ∙ c .before .before .before .before .before .before .before .before .before .before .if1 .left in
-    rw (c .before .before .before .before .before .before .before .before .before .before .before .before .match .keys9, not-zero) (ap going (close .ensures .0), close .ensures .1)
+    let close = closed-pivot c .close2 .ensures in
+    let tested = closed-pivot c .before .before .before .before in
+    rw (tested .before .before .match .keys9, sym (tested .before .is-zero .ensures) ∙ tested .if1 .left) (ap going (close .0), close .1)
 
 returns-11 : tie.Need-returns-11
 unfolding step
