@@ -1,45 +1,38 @@
 -- How a run ends: 7 to 15 before the records, and what the records leave.
 use Prim.Native.Nat.{ℕ}
-use mathlib.Core.Path.{_≡_, refl, sym, ap, ap₂, subst, _∙_}
+use mathlib.Core.Path.{_≡_, refl, sym, ap, subst, _∙_}
 use mathlib.Core.Bool.{Bool, true, false, cond}
-use mathlib.Core.List.{List, [], _∷_}
+use mathlib.Core.List.{List}
 use lib.Dec.{eqb}
 use lib.ListN.{length, replicate}
 use lib.Ieee.{Float}
 use borrow.Author.Tests.{eqb-true, ne-eqb}
 use Rattle.model.specs.Arith.{plusZero}
 use Rattle.model.specs.Formula.{C, Y, X}
-use Rattle.model.specs.Check.{word, Link, kindOf, Verdict, fine, refusal, check}
-use Rattle.model.specs.Run.{Outcome, solution, stopped, refusedBy, State, Stepped, going, stop, step, follow, notFinite, ran, Reply, solves, stops, refuses, reply, leaves}
+use Rattle.model.specs.Check.{word, fine, refusal, check}
+use Rattle.model.specs.Run.{Outcome, solution, stopped, refusedBy, notFinite, ran, Reply, solves, stops, refuses, reply, leaves}
+use Rattle.model.proofs.Passing.{both}
+use Rattle.model.proofs.Runs.{gated, lengthsRight, ranBy, ran-is, ran-fine}
+use Rattle.model.proofs.Running.{NotRefused}
 use Rattle.runner.specs.Following.{done, stands, lengthsFit, position, Fit}
-use Rattle.runner.proofs.Progress.{both}
 
--- 7 to 13, then 14, then 15, then what the records give
-abbrev pub picked : Verdict → Bool → ℕ → Outcome → Outcome
-picked (refusal r d) fit k o = refusedBy r d
-picked fine false k o = refusedBy 14 0
-picked fine true k o = cond (eqb k 0) o (refusedBy 15 k)
+-- 14, then 15 by the position k, then what the records give
+abbrev picked : Bool → ℕ → Outcome → Outcome
+picked fit k o = cond fit (cond (eqb k 0) o (refusedBy 15 k)) (refusedBy 14 0)
 
-pub ran-is : (W : List ℕ) (A B : List Float) (lc ly lx : ℕ)
-    → ran W A B lc ly lx ≡ picked (check W) (lengthsFit W (length A) (length B) lc ly lx) (position A B) (done W A B)
-unfolding ran
-ran-is W A B lc ly lx = by (check W) (lengthsFit W (length A) (length B) lc ly lx) (eqb (notFinite 1 A) 0) refl
+gated-picked : (fit : Bool) (a b : ℕ) (o : Outcome) → gated (refusedBy 14 0) (refusedBy 15) fit a b o ≡ picked fit (cond (eqb a 0) b a) o
+unfolding gated
+gated-picked false a b o = refl
+gated-picked true a b o = first (eqb a 0) refl
   where
-    second : (b : Bool) → elim b [ false ↦ refusedBy 15 (notFinite 1 B) | true ↦ done W A B ] ≡ cond b (done W A B) (refusedBy 15 (notFinite 1 B))
+    second : (none : Bool) → elim none [ false ↦ refusedBy 15 b | true ↦ o ] ≡ cond none o (refusedBy 15 b)
     second true = refl
     second false = refl
 
-    by : (v : Verdict) (fit none : Bool) → eqb (notFinite 1 A) 0 ≡ none → elim v [
-      | refusal r d ↦ refusedBy r d
-      | fine ↦ elim fit [
-        | false ↦ refusedBy 14 0
-        | true ↦ elim none [ false ↦ refusedBy 15 (notFinite 1 A) | true ↦ elim (eqb (notFinite 1 B) 0) [ false ↦ refusedBy 15 (notFinite 1 B) | true ↦ done W A B ] ]
-      ]
-    ] ≡ picked v fit (cond none (notFinite 1 B) (notFinite 1 A)) (done W A B)
-    by (refusal r d) fit none e = refl
-    by fine false none e = refl
-    by fine true false e = rw e refl
-    by fine true true e = second (eqb (notFinite 1 B) 0)
+    first : (none : Bool) → eqb a 0 ≡ none → elim none [ false ↦ refusedBy 15 a | true ↦ elim (eqb b 0) [ false ↦ refusedBy 15 b | true ↦ o ] ]
+        ≡ picked true (cond none b a) o
+    first true e = second (eqb b 0)
+    first false e = rw e refl
 
 -- what a run that ends by o tells and leaves in tables that held c, y and x
 abbrev pub Leaves : Outcome → Reply → List Float → List Float → List Float → List Float → List Float → List Float → Type 0
@@ -49,22 +42,6 @@ leaves-refused : (o : Outcome) (r d : ℕ) (c y x : List Float) → o ≡ refuse
 unfolding reply leaves
 leaves-refused o r d c y x e = rw e (refl, (refl, (refl, refl)))
 
--- the records refuse by 16 and 17 alone
-abbrev pub NotRefused : Outcome → Type 0
-NotRefused (solution t p q) = Unit {0}
-NotRefused (stopped r k t n) = Unit {0}
-NotRefused (refusedBy r d) = ⊥
-
-pub follow-not-refused : (A B : List Float) (z : State) (ls : List Link) → NotRefused (follow A B z ls)
-unfolding follow
-follow-not-refused A B z [] = tt
-follow-not-refused A B z (l ∷ ls) = by (step A B z (kindOf (l .at .kind)) (l .at .p) (l .at .q)) (λ z′. follow-not-refused A B z′ ls)
-  where
-    by : (s : Stepped) → ((z′ : State) → NotRefused (follow A B z′ ls))
-        → NotRefused (elim s [ going z′ ↦ follow A B z′ ls | stop r ↦ stopped r (l .index) (z .table) (z .target) ])
-    by (going z′) rest = rest z′
-    by (stop r) rest = tt
-
 -- the reply to a solution
 abbrev pub Solves : Reply → Type 0
 Solves (solves p q) = Unit {0}
@@ -73,13 +50,15 @@ Solves (refuses r d) = ⊥
 
 -- What the records leave in c₁, y₁ and x₁ is final on a solution, and is cleared else.
 module _ (c y x c₁ y₁ x₁ : List Float) where
-  pub leaves-solved : (o : Outcome) (r : Reply) → Solves r → r ≡ reply o → c₁ ≡ stands o C c₁ → y₁ ≡ stands o Y y₁ → x₁ ≡ stands o X x₁ → Leaves o r c y x c₁ y₁ x₁
+  pub leaves-solved : (o : Outcome) (r : Reply) → Solves r → r ≡ reply o → c₁ ≡ stands o C c₁ → y₁ ≡ stands o Y y₁ → x₁ ≡ stands o X x₁
+      → Leaves o r c y x c₁ y₁ x₁
   unfolding reply leaves stands
   leaves-solved (solution t p q) r is e ec ey ex = (e, (ec, (ey, ex)))
   leaves-solved (stopped n k u m) r is e ec ey ex = absurd (subst Solves e is)
   leaves-solved (refusedBy n d) r is e ec ey ex = absurd (subst Solves e is)
 
-  pub leaves-cleared : (o : Outcome) (r : Reply) → (Solves r → ⊥) → NotRefused o → r ≡ reply o → length c₁ ≡ length c → length y₁ ≡ length y → length x₁ ≡ length x
+  pub leaves-cleared : (o : Outcome) (r : Reply) → (Solves r → ⊥) → NotRefused o → r ≡ reply o
+      → length c₁ ≡ length c → length y₁ ≡ length y → length x₁ ≡ length x
       → Leaves o r c y x (replicate (length c₁) plusZero) (replicate (length y₁) plusZero) (replicate (length x₁) plusZero)
   unfolding reply leaves
   leaves-cleared (solution t p q) r is runs e lc ly lx = absurd (is (subst Solves (sym e) tt))
@@ -92,11 +71,16 @@ module _ (W : List ℕ) (A B c y x : List Float) where
   abbrev Run : Outcome
   Run = ran W A B (length c) (length y) (length x)
 
-  run-picked : {v : Verdict} {fit : Bool} → check W ≡ v → Fits ≡ fit → Run ≡ picked v fit (position A B) (done W A B)
-  run-picked e f = ran-is W A B (length c) (length y) (length x) ∙ ap₂ (λ u b. picked u b (position A B) (done W A B)) e f
+  run-picked : {fit : Bool} → check W ≡ fine → Fits ≡ fit → Run ≡ picked fit (position A B) (done W A B)
+  unfolding lengthsRight
+  run-picked e f =
+      ran-fine W A B (length c) (length y) (length x) e ∙ gated-picked Fits (notFinite 1 A) (notFinite 1 B) (done W A B)
+      ∙ ap (λ fit. picked fit (position A B) (done W A B)) f
 
   pub leaves-checked : (r d : ℕ) → check W ≡ refusal r d → Leaves Run (refuses r d) c y x c y x
-  leaves-checked r d e = leaves-refused Run r d c y x (run-picked e refl)
+  unfolding ranBy
+  leaves-checked r d e =
+      leaves-refused Run r d c y x (ran-is W A B (length c) (length y) (length x) ∙ ap (ranBy W A B (length c) (length y) (length x)) e)
 
   pub leaves-14 : check W ≡ fine → Fits ≡ false → Leaves Run (refuses 14 0) c y x c y x
   leaves-14 e f = leaves-refused Run 14 0 c y x (run-picked e f)
@@ -107,7 +91,8 @@ module _ (W : List ℕ) (A B c y x : List Float) where
       (run-picked e f ∙ ap (λ k. cond (eqb k 0) (done W A B) (refusedBy 15 k)) (sym is) ∙ ap (λ b. cond b (done W A B) (refusedBy 15 k)) (ne-eqb k 0 some))
 
   -- 7 to 15 passed
-  pub leaves-records : check W ≡ fine → Fits ≡ true → position A B ≡ 0 → (r : Reply) (c′ y′ x′ : List Float) → Leaves (done W A B) r c y x c′ y′ x′ → Leaves Run r c y x c′ y′ x′
+  pub leaves-records : check W ≡ fine → Fits ≡ true → position A B ≡ 0 → (r : Reply) (c′ y′ x′ : List Float)
+      → Leaves (done W A B) r c y x c′ y′ x′ → Leaves Run r c y x c′ y′ x′
   leaves-records e f none r c′ y′ x′ l =
       let is = run-picked e f ∙ ap (λ k. cond (eqb k 0) (done W A B) (refusedBy 15 k)) none in
       subst (λ o. Leaves o r c y x c′ y′ x′) (sym is) l

@@ -12,24 +12,26 @@ use Rattle.model.specs.Label.{within}
 use Rattle.model.specs.Formula.{Table, C, Y, X}
 use Rattle.model.specs.Check.{Open, idle, busy, Kind, opens, subtracts, divides, closes, closesPivot, none, inOrder, inTurn}
 use Rattle.model.proofs.Within.{within-range}
+use Rattle.model.proofs.Passing.{both}
+use Rattle.model.proofs.Stepping.{progressIn, OpenRoom}
 use Rattle.state.specs.declared.State.{State}
 use Rattle.state.specs.States.{stateOf, Sound, Free, Allowed}
 use Rattle.state.proofs.Steps.{Counts, counted}
-use Rattle.runner.proofs.Progress.{progressOf, Room, both}
 
-module _ (N n s : ℕ) (A c y x : List Float) (z : State) (sound : Sound (length c) (length y) (length x) z) (in-a : length A ≡ n) (in-c : length c ≡ s) (in-y : length y ≡ N) (in-x : length x ≡ N) where
+module _ (N n s : ℕ) (A c y x : List Float) (z : State) (sound : Sound (length c) (length y) (length x) z)
+    (in-a : length A ≡ n) (in-c : length c ≡ s) (in-y : length y ≡ N) (in-x : length x ≡ N) where
   counts : Counts z c y x
   counts = counted z c y x sound
 
   -- an open target has room
-  room-free : (u : Table) → Room N s (busy u) (stateOf z c y x) → Free (length c) (length y) (length x) z
+  room-free : (u : Table) → OpenRoom N s (busy u) (stateOf z c y x) → Free (length c) (length y) (length x) z
   room-free C room = rw (room .0) (omega (arith, counts .of-c, room .1))
   room-free Y room = rw (room .0) (omega (arith, counts .of-y, room .1))
   room-free X room = rw (room .0) (omega (arith, counts .of-x, room .1))
 
   module _ (p q : ℕ) where
     -- kind by kind
-    pub relies : (o : Open) (k : Kind) → inOrder k o ≡ true → inTurn N n s k p q (progressOf o (stateOf z c y x)) ≡ true → Room N s o (stateOf z c y x)
+    pub relies : (o : Open) (k : Kind) → inOrder k o ≡ true → inTurn N n s k p q (progressIn o (stateOf z c y x)) ≡ true → OpenRoom N s o (stateOf z c y x)
         → Allowed (length A) (length c) (length y) (length x) z k p q
     unfolding inOrder inTurn
     relies o (opens C) order turn room =

@@ -13,30 +13,29 @@ use Rattle.model.specs.Formula.{C, Y, X}
 use Rattle.model.specs.Check.{word, nextOf, kindOf, isIdle, complete}
 use Rattle.model.specs.Run as Run
 use Rattle.model.specs.Run.{Reply, solves, stops, reply}
+use Rattle.model.proofs.Passing.{both, Passed, fine-passed}
+use Rattle.model.proofs.Running.{RunAfter, RunBefore, run-begins, run-ends, next-fits, run-next, run-goes-on, run-stops}
 use Rattle.state.specs.declared.State.{State}
 use Rattle.state.specs.declared.Stepped.{Stepped}
 use Rattle.state.specs.declared.Stepped.the-variants.{On, Stop}
 use Rattle.state.specs.States.{stateOf, steppedOf, unopened, Sound, SoundStep, Ready}
 use Rattle.state.proofs.Steps.{counted}
 use Rattle.runner.specs.Following.{done, stands, Fit}
-use Rattle.runner.proofs.Progress.{both}
-use Rattle.runner.proofs.Running as Running
-use Rattle.runner.proofs.Running.{Whole, fine-whole, Going, Here, begins, ends, next-fits, at-next, goes-on}
 use Rattle.runner.proofs.Relying.{relies}
 
 -- what a run along the chain may end with: its reply, and what stands in the tables
-abbrev pub Ends : List ℕ → List Float → List Float → List Float → List Float → List Float → Reply → Type 0
-Ends W A B c y x r =
+abbrev pub RunEnds : List ℕ → List Float → List Float → List Float → List Float → List Float → Reply → Type 0
+RunEnds W A B c y x r =
     (r ≡ reply (done W A B)) × ((c ≡ stands (done W A B) C c) × ((y ≡ stands (done W A B) Y y) × (x ≡ stands (done W A B) X x)))
 
 -- the tables have the lengths that they had
-pub record Same (c₀ y₀ x₀ c y x : List Float) : Type 0 where
+pub record SameLengths (c₀ y₀ x₀ c y x : List Float) : Type 0 where
   pub of-c : length c ≡ length c₀
   pub of-y : length y ≡ length y₀
   pub of-x : length x ≡ length x₀
 
-pub same-trans : {c₀ y₀ x₀ c y x c′ y′ x′ : List Float} → Same c₀ y₀ x₀ c y x → Same c y x c′ y′ x′ → Same c₀ y₀ x₀ c′ y′ x′
-same-trans s t = record { of-c = t .of-c ∙ s .of-c; of-y = t .of-y ∙ s .of-y; of-x = t .of-x ∙ s .of-x }
+pub same-lengths-trans : {c₀ y₀ x₀ c y x c′ y′ x′ : List Float} → SameLengths c₀ y₀ x₀ c y x → SameLengths c y x c′ y′ x′ → SameLengths c₀ y₀ x₀ c′ y′ x′
+same-lengths-trans s t = record { of-c = t .of-c ∙ s .of-c; of-y = t .of-y ∙ s .of-y; of-x = t .of-x ∙ s .of-x }
 
 -- how many records the index `next` leaves to the loop, 0 at the end of the chain
 abbrev pub left : List ℕ → ℕ → ℕ
@@ -44,17 +43,17 @@ left W next = cond (eqb next 0) 0 (length W / 4 - next)
 
 module _ (W : List ℕ) (A B : List Float) where
   -- record `last` was the last to run, or record 0 if none was, and led to z with the tables c, y and x
-  pub record Ran (c y x : List Float) (z : State) (last : ℕ) : Type 0 where
+  pub record LastRan (c y x : List Float) (z : State) (last : ℕ) : Type 0 where
     pub fit : Fit W (length A) (length B) (length c) (length y) (length x)
-    pub whole : Whole W
+    pub passed : Passed W
     pub sound : Sound (length c) (length y) (length x) z
-    pub going : Going A B W (stateOf z c y x) last
+    pub after : RunAfter A B W (stateOf z c y x) last
 
   -- `next` is to run next
-  pub record Before (c y x : List Float) (z : State) (next : ℕ) : Type 0 where
+  pub record NextRuns (c y x : List Float) (z : State) (next : ℕ) : Type 0 where
     pub last : ℕ
     pub is : nextOf W last ≡ next
-    pub ran : Ran c y x z last
+    pub ran : LastRan c y x z last
 
   fresh-state : (c y x : List Float) → stateOf unopened c y x ≡ Run.fresh (length x)
   fresh-state c y x =
@@ -62,43 +61,43 @@ module _ (W : List ℕ) (A B : List Float) where
       rw (all, drop-length x)
 
   -- nothing ran yet
-  pub starts : (c y x : List Float) → Fit W (length A) (length B) (length c) (length y) (length x) → Ran c y x unopened 0
+  pub starts : (c y x : List Float) → Fit W (length A) (length B) (length c) (length y) (length x) → LastRan c y x unopened 0
   starts c y x fit =
-      let whole = fine-whole W (fit .checked) in
+      let passed = fine-passed W (fit .checked) in
       record {
         fit = fit;
-        whole = whole;
+        passed = passed;
         sound = record { named = refl; in-c = omega arith; in-y = omega arith; in-x = omega arith };
-        going = subst (λ z. Going A B W z 0) (sym (fresh-state c y x ∙ ap Run.fresh (fit .in-x))) (begins A B W whole);
+        after = subst (λ z. RunAfter A B W z 0) (sym (fresh-state c y x ∙ ap Run.fresh (fit .in-x))) (run-begins A B W passed);
       }
 
   module _ (c y x : List Float) (z : State) where
     -- at the end of the chain everything is closed
-    pub ended : Before c y x z 0 → Ends W A B c y x (solves (z .products) (z .quotients))
+    pub ended : NextRuns c y x z 0 → RunEnds W A B c y x (solves (z .products) (z .quotients))
     unfolding reply stands complete
     ended b =
         let fit = b .ran .fit in
         let counts = counted z c y x (b .ran .sound) in
-        let end = ends A B W (stateOf z c y x) (b .last) (b .ran .going) (b .is) in
-        let in-c = both (eqb (length (take (z .c) c)) (word W 2)) _ (both (isIdle (b .ran .going .target)) _ (end .1) .1) in
+        let end = run-ends A B W (stateOf z c y x) (b .last) (b .ran .after) (b .is) in
+        let in-c = both (eqb (length (take (z .c) c)) (word W 2)) _ (both (isIdle (b .ran .after .target)) _ (end .1) .1) in
         let in-y = both (eqb (length (take (z .y) y)) (word W 0)) (eqb (length (drop (length x - z .x) x)) (word W 0)) (in-c .1) in
         let all-c : length c ≤ z .c = omega (arith, eqb-true (length (take (z .c) c)) (word W 2) (in-c .0)) in
         let all-y : length y ≤ z .y = omega (arith, eqb-true (length (take (z .y) y)) (word W 0) (in-y .0)) in
         let none-x : length x - z .x ≡ 0 = omega (arith, eqb-true (length (drop (length x - z .x) x)) (word W 0) (in-y .1)) in
         rw (end .0) (refl, (sym (take-all (z .c) c all-c), (sym (take-all (z .y) y all-y), rw none-x refl)))
 
-    module _ (k : ℕ) (b : Before c y x z k) (some : k ≡ 0 → ⊥) where
+    module _ (k : ℕ) (b : NextRuns c y x z k) (some : k ≡ 0 → ⊥) where
       follows-some : nextOf W (b .last) ≡ 0 → ⊥
       follows-some e = some (sym (b .is) ∙ e)
 
       -- the next record stands within the words
       pub fits : k < length W / 4
-      fits = subst (λ n. n < length W / 4) (b .is) (next-fits A B W (stateOf z c y x) (b .last) (b .ran .going) follows-some .1)
+      fits = subst (λ n. n < length W / 4) (b .is) (next-fits A B W (stateOf z c y x) (b .last) (b .ran .after) follows-some .1)
 
-      here : Here A B W (stateOf z c y x) k (kindOf (word W (4 * k))) (word W (4 * k + 1)) (word W (4 * k + 2))
-      here =
-          subst (λ n. Here A B W (stateOf z c y x) n (kindOf (word W (4 * n))) (word W (4 * n + 1)) (word W (4 * n + 2))) (b .is)
-          (at-next A B W (stateOf z c y x) (b .last) (b .ran .going) follows-some)
+      before : RunBefore A B W (stateOf z c y x) k (kindOf (word W (4 * k))) (word W (4 * k + 1)) (word W (4 * k + 2))
+      before =
+          subst (λ n. RunBefore A B W (stateOf z c y x) n (kindOf (word W (4 * n))) (word W (4 * n + 1)) (word W (4 * n + 2))) (b .is)
+          (run-next A B W (stateOf z c y x) (b .last) (b .ran .after) follows-some)
 
       -- and its step has all that it relies on
       pub ready : Ready (length A) (length B) (length c) (length y) (length x) z (kindOf (word W (4 * k))) (word W (4 * k + 1)) (word W (4 * k + 2))
@@ -106,11 +105,11 @@ module _ (W : List ℕ) (A B : List Float) where
           let fit = b .ran .fit in
           record {
             sound = b .ran .sound;
-            few = omega (arith, here .made, fits, b .ran .whole .few);
+            few = omega (arith, before .made, fits, b .ran .passed .few);
             rows = fit .in-b ∙ sym (fit .in-y);
             allowed =
-                relies (word W 0) (word W 1) (word W 2) A c y x z (b .ran .sound) (fit .in-a) (fit .in-c) (fit .in-y) (fit .in-x) _ _ (here .target) _ (here .order)
-                (here .turn) (here .room);
+                relies (word W 0) (word W 1) (word W 2) A c y x z (b .ran .sound) (fit .in-a) (fit .in-c) (fit .in-y) (fit .in-x) _ _
+                (before .target) _ (before .order) (before .turn) (before .room);
           }
 
       -- r is what the step at record k gave, with the tables c′, y′ and x′
@@ -118,29 +117,37 @@ module _ (W : List ℕ) (A B : List Float) where
           (is : steppedOf r c′ y′ x′ ≡ Run.step A B (stateOf z c y x) (kindOf (word W (4 * k))) (word W (4 * k + 1)) (word W (4 * k + 2)))
           (sound : SoundStep (length c) (length y) (length x) r) where
         -- the run goes on
-        pub turned : (z′ : State) → r ≡ On z′ → Ran c′ y′ x′ z′ k
+        pub turned : (z′ : State) → r ≡ On z′ → LastRan c′ y′ x′ z′ k
         turned z′ e =
             let fit = b .ran .fit in
             record {
-              fit = record { checked = fit .checked; in-a = fit .in-a; in-b = fit .in-b; in-c = lc ∙ fit .in-c; in-y = ly ∙ fit .in-y; in-x = lx ∙ fit .in-x };
-              whole = b .ran .whole;
+              fit = record {
+                checked = fit .checked;
+                in-a = fit .in-a;
+                in-b = fit .in-b;
+                in-c = lc ∙ fit .in-c;
+                in-y = ly ∙ fit .in-y;
+                in-x = lx ∙ fit .in-x;
+              };
+              passed = b .ran .passed;
               sound = rw (lc, ly, lx) (subst (SoundStep (length c) (length y) (length x)) e sound);
-              going = goes-on A B W (stateOf z c y x) k _ _ _ here (stateOf z′ c′ y′ x′) (ap (λ r. steppedOf r c′ y′ x′) (sym e) ∙ is);
+              after = run-goes-on A B W (stateOf z c y x) k _ _ _ before (stateOf z′ c′ y′ x′) (ap (λ r. steppedOf r c′ y′ x′) (sym e) ∙ is);
             }
 
         -- or stops there
-        pub stopped-at : (number : ℕ) → r ≡ Stop number → Ends W A B c′ y′ x′ (stops number k (z .table) (z .target))
+        pub stopped-at : (number : ℕ) → r ≡ Stop number → RunEnds W A B c′ y′ x′ (stops number k (z .table) (z .target))
         unfolding reply stands
         stopped-at number e =
-            rw (Running.stops A B W (stateOf z c y x) k _ _ _ here number (ap (λ r. steppedOf r c′ y′ x′) (sym e) ∙ is))
+            rw (run-stops A B W (stateOf z c y x) k _ _ _ before number (ap (λ r. steppedOf r c′ y′ x′) (sym e) ∙ is))
             (ap (λ t. stops number k t (z .target)) (sym (b .ran .sound .named)), (refl, (refl, refl)))
 
   -- the next record, if there is one, is a later one
-  pub gets-on : (c y x : List Float) (z : State) (k₀ k next : ℕ) → (k₀ ≡ 0 → ⊥) → k₀ ≤ k → k < length W / 4 → Ran c y x z k → nextOf W k ≡ next → left W next < left W k₀
+  pub gets-on : (c y x : List Float) (z : State) (k₀ k next : ℕ) → (k₀ ≡ 0 → ⊥) → k₀ ≤ k → k < length W / 4 → LastRan c y x z k → nextOf W k ≡ next
+      → left W next < left W k₀
   gets-on c y x z k₀ k next some from low ran is = rw (ne-eqb k₀ 0 some) (by (eqb next 0) refl)
     where
       by : (b : Bool) → eqb next 0 ≡ b → cond b 0 (length W / 4 - next) < length W / 4 - k₀
       by true e = omega arith
       by false e =
-          let later = next-fits A B W (stateOf z c y x) k (ran .going) (λ none. eqb-false next 0 e (sym is ∙ none)) in
+          let later = next-fits A B W (stateOf z c y x) k (ran .after) (λ none. eqb-false next 0 e (sym is ∙ none)) in
           omega arith

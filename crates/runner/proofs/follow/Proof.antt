@@ -5,19 +5,19 @@ use native.Mathlib.Omega.{arith}
 use mathlib.Core.Path.{_≡_, refl, sym, subst, _∙_}
 use lib.ListN.{length}
 use borrow.Author.Needs.{needs}
-use Rattle.runner.proofs.Running.{fine-whole}
-use Rattle.runner.proofs.Turns.{Same, same-trans, Ran, Before, left, starts, ended, fits, ready, turned, stopped-at, gets-on}
+use Rattle.model.proofs.Passing.{fine-passed}
+use Rattle.runner.proofs.Turns.{SameLengths, same-lengths-trans, LastRan, NextRuns, left, starts, ended, fits, ready, turned, stopped-at, gets-on}
 use Rattle.runner.proofs.follow.Statement.{statement}
 use Rattle.runner.proofs.follow.Tie as tie
 
 abbrev Inv-loop2 : tie.InvT-loop2
-Inv-loop2 words a b c₀ y₀ x₀ z₀ next₀ k₀ c y x z next k = Same c₀ y₀ x₀ c y x × (Before words a b c y x z k × ((k ≡ 0 → ⊥) × (k₀ ≤ k)))
+Inv-loop2 words a b c₀ y₀ x₀ z₀ next₀ k₀ c y x z next k = SameLengths c₀ y₀ x₀ c y x × (NextRuns words a b c y x z k × ((k ≡ 0 → ⊥) × (k₀ ≤ k)))
 
 abbrev μ-loop2 : tie.MeasureT-loop2
 μ-loop2 words a b c₀ y₀ x₀ z₀ next₀ k₀ c y x z next k = length words / 4 - k
 
 abbrev Inv-loop : tie.InvT-loop
-Inv-loop words a b c₀ y₀ x₀ z₀ next₀ c y x z next = Same c₀ y₀ x₀ c y x × Before words a b c y x z next
+Inv-loop words a b c₀ y₀ x₀ z₀ next₀ c y x z next = SameLengths c₀ y₀ x₀ c y x × NextRuns words a b c y x z next
 
 abbrev μ-loop : tie.MeasureT-loop
 μ-loop words a b c₀ y₀ x₀ z₀ next₀ c y x z next = left words next
@@ -38,10 +38,10 @@ low c =
     fits (a .words .now) (a .a .now) (a .b .now) (l .c) (l .y) (l .x) (l .z) (l .k) (l .inv .1 .0) (l .inv .1 .1 .0)
 
 few : (c : tie.At-loop2 Inv-loop2 μ-loop2 Inv-loop μ-loop) → length (start c .args .words .now) / 4 ≤ 100000000
-few c = c .loop2 .inv .1 .0 .ran .whole .few
+few c = c .loop2 .inv .1 .0 .ran .passed .few
 
 ran-on : (c : tie.After-known-told Inv-loop2 μ-loop2 Inv-loop μ-loop)
-    → Ran (start (turn (stepped c)) .args .words .now) (start (turn (stepped c)) .args .a .now) (start (turn (stepped c)) .args .b .now)
+    → LastRan (start (turn (stepped c)) .args .words .now) (start (turn (stepped c)) .args .a .now) (start (turn (stepped c)) .args .b .now)
     (stepped c .step .last .1 .1 .1 .1 .1 .1 .0) (stepped c .step .last .1 .1 .1 .1 .1 .1 .1 .0) (stepped c .step .last .1 .1 .1 .1 .1 .1 .1 .1 .0)
     (c .before .after .given .0 .0) (turn (stepped c) .loop2 .k)
 ran-on c =
@@ -53,12 +53,12 @@ ran-on c =
 
 -- the lengths after a step are those at the inner loop's start, and those at the function's entry
 same-turn : (c : tie.After-step Inv-loop2 μ-loop2 Inv-loop μ-loop) → let l = turn c .before .before .loop in
-    Same (l .c) (l .y) (l .x) (c .step .last .1 .1 .1 .1 .1 .1 .0) (c .step .last .1 .1 .1 .1 .1 .1 .1 .0) (c .step .last .1 .1 .1 .1 .1 .1 .1 .1 .0)
-same-turn c = same-trans (turn c .loop2 .inv .0) (record { of-c = c .step .kept .1 .1 .1 .1 .1 .1 .0; of-y = c .step .kept .1 .1 .1 .1 .1 .1 .1 .0; of-x = c .step .kept .1 .1 .1 .1 .1 .1 .1 .1 .0 })
+    SameLengths (l .c) (l .y) (l .x) (c .step .last .1 .1 .1 .1 .1 .1 .0) (c .step .last .1 .1 .1 .1 .1 .1 .1 .0) (c .step .last .1 .1 .1 .1 .1 .1 .1 .1 .0)
+same-turn c = same-lengths-trans (turn c .loop2 .inv .0) (record { of-c = c .step .kept .1 .1 .1 .1 .1 .1 .0; of-y = c .step .kept .1 .1 .1 .1 .1 .1 .1 .0; of-x = c .step .kept .1 .1 .1 .1 .1 .1 .1 .1 .0 })
 
 same-entry : (c : tie.After-step Inv-loop2 μ-loop2 Inv-loop μ-loop) → let a = start (turn c) .args in
-    Same (a .c .now) (a .y .now) (a .x .now) (c .step .last .1 .1 .1 .1 .1 .1 .0) (c .step .last .1 .1 .1 .1 .1 .1 .1 .0) (c .step .last .1 .1 .1 .1 .1 .1 .1 .1 .0)
-same-entry c = same-trans (turn c .before .before .loop .inv .0) (same-turn c)
+    SameLengths (a .c .now) (a .y .now) (a .x .now) (c .step .last .1 .1 .1 .1 .1 .1 .0) (c .step .last .1 .1 .1 .1 .1 .1 .1 .0) (c .step .last .1 .1 .1 .1 .1 .1 .1 .1 .0)
+same-entry c = same-lengths-trans (turn c .before .before .loop .inv .0) (same-turn c)
 
 fresh-requires : tie.Need-fresh-requires Inv-loop2 μ-loop2 Inv-loop μ-loop
 fresh-requires c κs = search needs
@@ -67,7 +67,7 @@ shared-slice-read-wide : tie.Need-shared-slice-read-wide Inv-loop2 μ-loop2 Inv-
 shared-slice-read-wide c =
     omega (
       arith,
-      fine-whole (c .before .before .before .before .before .before .before .before .args .words .now)
+      fine-passed (c .before .before .before .before .before .before .before .before .args .words .now)
           (c .before .before .before .before .before .before .before .before .pre .checked),
     )
 
@@ -81,7 +81,7 @@ loop-holds c =
       record {
         last = 0;
         is = sym (c .wide .ensures);
-        ran = subst (λ z. Ran (a .words .now) (a .a .now) (a .b .now) (a .c .now) (a .y .now) (a .x .now) z 0) (sym (c .before .before .fresh .ensures))
+        ran = subst (λ z. LastRan (a .words .now) (a .a .now) (a .b .now) (a .c .now) (a .y .now) (a .x .now) z 0) (sym (c .before .before .fresh .ensures))
             (starts (a .words .now) (a .a .now) (a .b .now) (a .c .now) (a .y .now) (a .x .now) (c .before .before .before .before .before .before .before .before .before .pre));
       },
     )
@@ -203,7 +203,7 @@ returns-2 : tie.Need-returns-2 Inv-loop2 μ-loop2 Inv-loop μ-loop
 returns-2 c =
     let a = c .before .before .before .before .before .before .before .before .before .before .before .args in
     let l = c .before .loop in
-    ended (a .words .now) (a .a .now) (a .b .now) (l .c) (l .y) (l .x) (l .z) (subst (Before (a .words .now) (a .a .now) (a .b .now) (l .c) (l .y) (l .x) (l .z)) (c .loop-test .left) (l .inv .1))
+    ended (a .words .now) (a .a .now) (a .b .now) (l .c) (l .y) (l .x) (l .z) (subst (NextRuns (a .words .now) (a .a .now) (a .b .now) (l .c) (l .y) (l .x) (l .z)) (c .loop-test .left) (l .inv .1))
 
 pub follow-spec : {M : Type 1} → statement M
 follow-spec =

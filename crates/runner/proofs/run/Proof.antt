@@ -8,7 +8,7 @@ use borrow.Author.Tests.{not-true, not-false}
 use Rattle.model.specs.Check.{fine, check}
 use Rattle.checker.specs.Checked.{verdictOf}
 use Rattle.runner.specs.Following.{lengthsFit}
-use Rattle.runner.proofs.Running.{fine-whole}
+use Rattle.model.proofs.Passing.{fine-passed}
 use Rattle.runner.proofs.Outcomes.{leaves-checked, leaves-14, leaves-15, leaves-records, fit-true}
 use Rattle.runner.proofs.run.Statement.{statement}
 use Rattle.runner.proofs.run.Tie as tie
@@ -36,7 +36,7 @@ enum-told : tie.Need-enum-told
 enum-told c = search needs
 
 lengths-fit-requires : tie.Need-lengths-fit-requires
-lengths-fit-requires c κs = omega (arith, fine-whole (c .before .before .before .before .before .before .before .before .before .args .words .now) (fine-now c))
+lengths-fit-requires c κs = omega (arith, fine-passed (c .before .before .before .before .before .before .before .before .before .args .words .now) (fine-now c))
 
 returns-2 : tie.Need-returns-2
 returns-2 c =

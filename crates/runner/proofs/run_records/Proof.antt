@@ -6,12 +6,13 @@ use denote.Enum.Declared.{tagOf}
 use borrow.Author.Needs.{needs}
 use Rattle.model.specs.Check.{word, chain}
 use Rattle.model.specs.Run.{fresh}
+use Rattle.model.proofs.Running.{follow-not-refused}
 use Rattle.runner.specs.declared.Outcome.{Outcome}
 use Rattle.runner.specs.declared.Outcome.the-variants.{Solved, Stopped, Refused}
 use Rattle.runner.specs.Outcome.{replyOf}
 use Rattle.runner.specs.Following.{done}
 use Rattle.runner.proofs.Outcome.{the-type}
-use Rattle.runner.proofs.Outcomes.{Solves, leaves-solved, leaves-cleared, follow-not-refused}
+use Rattle.runner.proofs.Outcomes.{Solves, leaves-solved, leaves-cleared}
 use Rattle.runner.proofs.run_records.Statement.{statement}
 use Rattle.runner.proofs.run_records.Tie as tie
 

@@ -1,70 +1,73 @@
--- The run of a checked program keeps to its check: what is closed in the run's state is what the check counts, and a target that is open has room.
+-- A step of a run keeps to the check: what is closed in the run's state is what the check counts, and a target that is open has room.
 use Prim.Native.Nat.{ℕ, suc, _+_, _≤_, _<_}
 use native.Mathlib.Omega.{arith}
 use mathlib.Core.Path.{_≡_, refl, ap}
-use mathlib.Core.Bool.{Bool, true, false, cond, _&&_, and-eq-true-iff, false≢true}
+use mathlib.Core.Bool.{Bool, true, false, cond, _&&_, false≢true}
 use mathlib.Core.List.{List}
 use lib.Dec.{leb, ltb, eqb}
 use lib.ListN.{length, length-append}
 use lib.Ieee.{Float}
 use borrow.Author.Tests.{ltb-true, leb-true, eqb-true}
 use Rattle.model.specs.Arith.{Answer, number, overflow, zeroDivisor, quotient, isZero}
 use Rattle.model.specs.Formula.{Table, C, Y, X, Tables, entry, closed, less}
-use Rattle.model.specs.Check.{Open, idle, busy, Progress, Kind, opens, subtracts, divides, closes, closesPivot, none, inOrder, inTurn, counted, onward}
+use Rattle.model.specs.Check.{Open, idle, busy, Progress, Kind, opens, subtracts, divides, closes, closesPivot, none}
+use Rattle.model.specs.Check.{inOrder, inTurn, counted, onward}
 use Rattle.model.specs.Run.{State, Stepped, going, stop, closing, subtracted, dividedBy, settledStep, step}
+use Rattle.model.proofs.Passing.{both}
 
 -- what is closed in a state, where o is open
-abbrev pub progressOf : Open → State → Progress
-progressOf o z = record { target = o; c = length (z .tables .c); y = length (z .tables .y); x = length (z .tables .x) }
+abbrev pub progressIn : Open → State → Progress
+progressIn o z = record { target = o; c = length (z .tables .c); y = length (z .tables .y); x = length (z .tables .x) }
 
 -- how many entries of a table are closed, and how many it has
-abbrev pub closedIn : Table → Tables → ℕ
+abbrev closedIn : Table → Tables → ℕ
 closedIn C t = length (t .c)
 closedIn Y t = length (t .y)
 closedIn X t = length (t .x)
 
-abbrev pub lengthOf : ℕ → ℕ → Table → ℕ
-lengthOf N s C = s
-lengthOf N s Y = N
-lengthOf N s X = N
+abbrev entriesOf : ℕ → ℕ → Table → ℕ
+entriesOf N s C = s
+entriesOf N s Y = N
+entriesOf N s X = N
 
 -- the open table is the state's, and has an entry that is not closed
-abbrev pub Room : ℕ → ℕ → Open → State → Type 0
-Room N s idle z = Unit {0}
-Room N s (busy t) z = (z .table ≡ t) × (closedIn t (z .tables) < lengthOf N s t)
-
--- both of two tests
-pub both : (a b : Bool) → a && b ≡ true → (a ≡ true) × (b ≡ true)
-both a b = and-eq-true-iff a b .0
+abbrev pub OpenRoom : ℕ → ℕ → Open → State → Type 0
+OpenRoom N s idle z = Unit {0}
+OpenRoom N s (busy t) z = (z .table ≡ t) × (closedIn t (z .tables) < entriesOf N s t)
 
 -- the state after a record of kind k: its progress is the check's, a target that is open has room, and at most one operation more was made
-pub record After (N s : ℕ) (o : Open) (z : State) (k : Kind) (z′ : State) : Type 0 where
-  pub progress : progressOf (onward k (progressOf o z) .target) z′ ≡ onward k (progressOf o z)
-  pub room : Room N s (onward k (progressOf o z) .target) z′
+pub record AfterRecord (N s : ℕ) (o : Open) (z : State) (k : Kind) (z′ : State) : Type 0 where
+  pub progress : progressIn (onward k (progressIn o z) .target) z′ ≡ onward k (progressIn o z)
+  pub room : OpenRoom N s (onward k (progressIn o z) .target) z′
   pub made : z′ .products + z′ .quotients ≤ suc (z .products + z .quotients)
 
 abbrev pub AfterStep : ℕ → ℕ → Open → State → Kind → Stepped → Type 0
-AfterStep N s o z k (going z′) = After N s o z k z′
+AfterStep N s o z k (going z′) = AfterRecord N s o z k z′
 AfterStep N s o z k (stop r) = Unit {0}
 
 module _ (A B : List Float) (N n s : ℕ) (z : State) (p q : ℕ) where
-  answered-after : (o : Open) (k : Kind) (a : Answer) (f : Float → State) → ((v : Float) → After N s o z k (f v)) → AfterStep N s o z k (settledStep a f)
+  answered-after : (o : Open) (k : Kind) (a : Answer) (f : Float → State) → ((v : Float) → AfterRecord N s o z k (f v)) → AfterStep N s o z k (settledStep a f)
   answered-after o k (number v) f after = after v
   answered-after o k overflow f after = tt
   answered-after o k zeroDivisor f after = tt
 
-  closed-after : (u : Table) → Room N s (busy u) z → progressOf idle (closing z) ≡ counted (busy u) (progressOf (busy u) z)
+  closed-after : (u : Table) → OpenRoom N s (busy u) z → progressIn idle (closing z) ≡ counted (busy u) (progressIn (busy u) z)
   unfolding closed
-  closed-after C room = rw (room .0, closed, length-append) (ap (λ m. record { target = idle; c = m; y = length (z .tables .y); x = length (z .tables .x) }) (omega arith))
-  closed-after Y room = rw (room .0, closed, length-append) (ap (λ m. record { target = idle; c = length (z .tables .c); y = m; x = length (z .tables .x) }) (omega arith))
+  closed-after C room =
+      rw (room .0, closed, length-append)
+      (ap (λ m. record { target = idle; c = m; y = length (z .tables .y); x = length (z .tables .x) }) (omega arith))
+  closed-after Y room =
+      rw (room .0, closed, length-append)
+      (ap (λ m. record { target = idle; c = length (z .tables .c); y = m; x = length (z .tables .x) }) (omega arith))
   closed-after X room = rw (room .0, closed)
 
-  tested-after : (zero? : Bool) → Room N s (busy C) z → AfterStep N s (busy C) z closesPivot (cond zero? (stop 17) (going (closing z)))
+  tested-after : (zero? : Bool) → OpenRoom N s (busy C) z → AfterStep N s (busy C) z closesPivot (cond zero? (stop 17) (going (closing z)))
   tested-after true room = tt
   tested-after false room = record { progress = closed-after C room; room = tt; made = omega arith }
 
   -- a record that passes 11 and 12 leads to such a state
-  pub after-step : (o : Open) (k : Kind) → inOrder k o ≡ true → inTurn N n s k p q (progressOf o z) ≡ true → Room N s o z → AfterStep N s o z k (step A B z k p q)
+  pub after-step : (o : Open) (k : Kind) → inOrder k o ≡ true → inTurn N n s k p q (progressIn o z) ≡ true → OpenRoom N s o z
+      → AfterStep N s o z k (step A B z k p q)
   unfolding inOrder inTurn step
   after-step idle (opens C) order turn room =
       let t = both (leb p n) (eqb q (suc (length (z .tables .c))) && leb q s) turn in
@@ -81,7 +84,8 @@ module _ (A B : List Float) (N n s : ℕ) (z : State) (p q : ℕ) where
       answered-after (busy u) (subtracts t) (less (z .running) (entry (z .tables) C p) (entry (z .tables) t q)) (subtracted z)
       (λ v. record { progress = refl; room = room; made = omega arith })
   after-step (busy u) divides order turn room =
-      answered-after (busy u) divides (quotient (z .running) (entry (z .tables) C p)) (dividedBy z) (λ v. record { progress = refl; room = room; made = omega arith })
+      answered-after (busy u) divides (quotient (z .running) (entry (z .tables) C p)) (dividedBy z)
+      (λ v. record { progress = refl; room = room; made = omega arith })
   after-step (busy C) closes order turn room = record { progress = closed-after C room; room = tt; made = omega arith }
   after-step (busy Y) closes order turn room = record { progress = closed-after Y room; room = tt; made = omega arith }
   after-step (busy X) closes order turn room = record { progress = closed-after X room; room = tt; made = omega arith }

@@ -1,0 +1,86 @@
+-- What words that pass 7 to 13 are: the checks as one record, and what a chain that passes asks of its records and of its end.
+use Prim.Native.Nat.{ℕ, _*_, _/_, _%_, _≤_, _<_}
+use native.Mathlib.Omega.{arith}
+use mathlib.Core.Path.{_≡_, refl}
+use mathlib.Core.Bool.{Bool, true, false, cond, _&&_, and-eq-true-iff}
+use mathlib.Core.List.{List, _∷_}
+use borrow.Author.Tests.{ltb-true, leb-true, eqb-true}
+use lib.Dec.{eqb, leb, ltb}
+use lib.ListN.{length}
+use Rattle.model.specs.Label.{isOrder}
+use Rattle.model.specs.Check.{Link, End, whole, Progress, Verdict, fine, refusal, Kind, kindOf, formed, inOrder, inTurn, onward}
+use Rattle.model.specs.Check.{complete, atEnd, begun, word, chain, checkLinks, check}
+
+-- a refusal is not fine
+pub refused-fine : (r d : ℕ) → refusal r d ≡ fine → ⊥
+refused-fine r d e = let z : _≡_ {A = ℕ} 0 1 = cc in omega arith
+
+-- two tests that pass together
+pub both : (a b : Bool) → a && b ≡ true → (a ≡ true) × (b ≡ true)
+both a b = and-eq-true-iff a b .0
+
+-- 8's test
+abbrev pub eight : ℕ → ℕ → ℕ → Bool
+eight N n s = isOrder N && (leb n (N * N) && (leb N s && leb s (N * N)))
+
+-- what passes 7 to 13
+pub record Passed (W : List ℕ) : Type 0 where
+  pub some : 0 < length W
+  pub fours : length W % 4 ≡ 0
+  pub few : length W / 4 ≤ 100000000
+  pub head : eight (word W 0) (word W 1) (word W 2) ≡ true
+  pub links : checkLinks (word W 0) (word W 1) (word W 2) begun (chain W .links) (chain W .end) ≡ fine
+
+pub fine-passed : (W : List ℕ) → check W ≡ fine → Passed W
+unfolding check
+fine-passed W e =
+    go (ltb 0 (length W)) (eqb (length W % 4) 0) (leb (length W / 4) 100000000) (eight (word W 0) (word W 1) (word W 2)) refl refl refl refl e
+  where
+    rest : Verdict
+    rest = checkLinks (word W 0) (word W 1) (word W 2) begun (chain W .links) (chain W .end)
+
+    go : (some fours few head : Bool) → ltb 0 (length W) ≡ some → eqb (length W % 4) 0 ≡ fours → leb (length W / 4) 100000000 ≡ few
+        → eight (word W 0) (word W 1) (word W 2) ≡ head
+        → elim (some && (fours && few)) as (λ b. Verdict) [ false ↦ refusal 7 0 | true ↦ elim head [ false ↦ refusal 8 0 | true ↦ rest ] ] ≡ fine → Passed W
+    go false fours few head a b c d e = absurd (refused-fine _ _ e)
+    go true false few head a b c d e = absurd (refused-fine _ _ e)
+    go true true false head a b c d e = absurd (refused-fine _ _ e)
+    go true true true false a b c d e = absurd (refused-fine _ _ e)
+    go true true true true a b c d e =
+        record { some = ltb-true 0 (length W) a; fours = eqb-true (length W % 4) 0 b; few = leb-true (length W / 4) 100000000 c; head = d; links = e }
+
+-- the first record of a chain passes 10, 11 and 12, and the others pass after it
+pub record LinkPassed (N n s : ℕ) (g : Progress) (l : Link) (ls : List Link) (e : End) : Type 0 where
+  pub ten : formed (kindOf (l .at .kind)) (l .at .p) (l .at .q) ≡ true
+  pub eleven : inOrder (kindOf (l .at .kind)) (g .target) ≡ true
+  pub twelve : inTurn N n s (kindOf (l .at .kind)) (l .at .p) (l .at .q) g ≡ true
+  pub later : checkLinks N n s (onward (kindOf (l .at .kind)) g) ls e ≡ fine
+
+pub link-passed : (N n s : ℕ) (g : Progress) (l : Link) (ls : List Link) (e : End) → checkLinks N n s g (l ∷ ls) e ≡ fine → LinkPassed N n s g l ls e
+unfolding checkLinks
+link-passed N n s g l ls e passes =
+    go (formed k (l .at .p) (l .at .q)) (inOrder k (g .target)) (inTurn N n s k (l .at .p) (l .at .q) g) refl refl refl passes
+  where
+    k : Kind
+    k = kindOf (l .at .kind)
+
+    rest : Verdict
+    rest = checkLinks N n s (onward k g) ls e
+
+    go : (ten eleven twelve : Bool) → formed k (l .at .p) (l .at .q) ≡ ten → inOrder k (g .target) ≡ eleven → inTurn N n s k (l .at .p) (l .at .q) g ≡ twelve
+        → elim ten as (λ b. Verdict) [
+          | false ↦ refusal 10 (l .index)
+          | true ↦ elim eleven [ false ↦ refusal 11 (l .index) | true ↦ elim twelve [ false ↦ refusal 12 (l .index) | true ↦ rest ] ]
+        ] ≡ fine → LinkPassed N n s g l ls e
+    go false eleven twelve a b c e = absurd (refused-fine _ _ e)
+    go true false twelve a b c e = absurd (refused-fine _ _ e)
+    go true true false a b c e = absurd (refused-fine _ _ e)
+    go true true true a b c e = record { ten = a; eleven = b; twelve = c; later = e }
+
+-- a chain that ends whole passes 13: C, Y and X are all closed
+pub end-passed : (N s : ℕ) (g : Progress) → atEnd N s g whole ≡ fine → complete N s g ≡ true
+end-passed N s g = go (complete N s g)
+  where
+    go : (b : Bool) → cond b fine (refusal 13 0) ≡ fine → b ≡ true
+    go true e = refl
+    go false e = absurd (refused-fine 13 0 e)
