@@ -113,7 +113,7 @@ module _ (W : List ℕ) (A B : List Float) where
           }
 
       -- r is what the step at record k gave, with the tables c′, y′ and x′
-      module _ (c′ y′ x′ : List Float) (r : Stepped) (lc : length c′ ≡ length c) (ly : length y′ ≡ length y) (lx : length x′ ≡ length x)
+      module _ (c′ y′ x′ : List Float) (r : Stepped) (same : SameLengths c y x c′ y′ x′)
           (is : steppedOf r c′ y′ x′ ≡ Run.step A B (stateOf z c y x) (kindOf (word W (4 * k))) (word W (4 * k + 1)) (word W (4 * k + 2)))
           (sound : SoundStep (length c) (length y) (length x) r) where
         -- the run goes on
@@ -125,12 +125,12 @@ module _ (W : List ℕ) (A B : List Float) where
                 checked = fit .checked;
                 in-a = fit .in-a;
                 in-b = fit .in-b;
-                in-c = lc ∙ fit .in-c;
-                in-y = ly ∙ fit .in-y;
-                in-x = lx ∙ fit .in-x;
+                in-c = same .of-c ∙ fit .in-c;
+                in-y = same .of-y ∙ fit .in-y;
+                in-x = same .of-x ∙ fit .in-x;
               };
               passed = b .ran .passed;
-              sound = rw (lc, ly, lx) (subst (SoundStep (length c) (length y) (length x)) e sound);
+              sound = rw (same .of-c, same .of-y, same .of-x) (subst (SoundStep (length c) (length y) (length x)) e sound);
               after = run-goes-on A B W (stateOf z c y x) k _ _ _ before (stateOf z′ c′ y′ x′) (ap (λ r. steppedOf r c′ y′ x′) (sym e) ∙ is);
             }
 

@@ -3,7 +3,9 @@
 use Prim.Native.Nat.{_-_, _/_, _≤_, _<_}
 use native.Mathlib.Omega.{arith}
 use mathlib.Core.Path.{_≡_, refl, sym, subst, _∙_}
+use mathlib.Core.List.{List}
 use lib.ListN.{length}
+use lib.Ieee.{Float}
 use borrow.Author.Needs.{needs}
 use Rattle.model.proofs.Passing.{fine-passed}
 use Rattle.runner.proofs.Turns.{SameLengths, same-lengths-trans, LastRan, NextRuns, left, starts, ended, fits, ready, turned, stopped-at, gets-on}
@@ -22,67 +24,81 @@ Inv-loop words a b c₀ y₀ x₀ z₀ next₀ c y x z next = SameLengths c₀ y
 abbrev μ-loop : tie.MeasureT-loop
 μ-loop words a b c₀ y₀ x₀ z₀ next₀ c y x z next = left words next
 
-abbrev start : tie.At-loop2 Inv-loop2 μ-loop2 Inv-loop μ-loop → tie.Start Inv-loop2 μ-loop2 Inv-loop μ-loop
-start c = c .before .before .before .before .before .before .before .before .before .before .before .before
+-- Places of the code: the entry, seen from where the first record's index is read; a turn of the inner loop, with the entry before it; where the turn's
+-- step is made; and, seen from where its answer is told, the step of a run that goes on, and of one that stops.
+abbrev entry : tie.After-shared-slice-known4 Inv-loop2 μ-loop2 Inv-loop μ-loop → tie.Start Inv-loop2 μ-loop2 Inv-loop μ-loop
+entry c = c .before .before .before .before .before .before .before .before
 
-abbrev turn : tie.After-step Inv-loop2 μ-loop2 Inv-loop μ-loop → tie.At-loop2 Inv-loop2 μ-loop2 Inv-loop μ-loop
+abbrev Turn : Type 0
+Turn = tie.At-loop2 Inv-loop2 μ-loop2 Inv-loop μ-loop
+
+abbrev start : Turn → tie.Start Inv-loop2 μ-loop2 Inv-loop μ-loop
+start c = entry (c .before .before .before .before)
+
+abbrev Stepped : Type 0
+Stepped = tie.After-step Inv-loop2 μ-loop2 Inv-loop μ-loop
+
+abbrev turn : Stepped → Turn
 turn c = c .before .before .before .before .before .before .before
 
-abbrev stepped : tie.After-known-told Inv-loop2 μ-loop2 Inv-loop μ-loop → tie.After-step Inv-loop2 μ-loop2 Inv-loop μ-loop
-stepped c = c .before .before .before .before .before .before .before .before .before
+abbrev going : tie.After-known-told Inv-loop2 μ-loop2 Inv-loop μ-loop → Stepped
+going c = c .before .before .before .before .before .before .before .before .before
 
-low : (c : tie.At-loop2 Inv-loop2 μ-loop2 Inv-loop μ-loop) → c .loop2 .k < length (start c .args .words .now) / 4
-low c =
-    let a = start c .args in
-    let l = c .loop2 in
-    fits (a .words .now) (a .a .now) (a .b .now) (l .c) (l .y) (l .x) (l .z) (l .k) (l .inv .1 .0) (l .inv .1 .1 .0)
+abbrev stopping : tie.After-known-told2 Inv-loop2 μ-loop2 Inv-loop μ-loop → Stepped
+stopping c = c .before .before .before .before .before .before .before .before .before
 
-few : (c : tie.At-loop2 Inv-loop2 μ-loop2 Inv-loop μ-loop) → length (start c .args .words .now) / 4 ≤ 100000000
-few c = c .loop2 .inv .1 .0 .ran .passed .few
+-- the turn's record stands within the words, which are few
+bounds : (c : Turn) → let records = length (start c .args .words .now) / 4 in (c .loop2 .k < records) × (records ≤ 100000000)
+bounds c =
+    let at = c .loop2 .inv .1 in
+    (fits _ _ _ _ _ _ _ _ (at .0) (at .1 .0), at .0 .ran .passed .few)
 
-ran-on : (c : tie.After-known-told Inv-loop2 μ-loop2 Inv-loop μ-loop)
-    → LastRan (start (turn (stepped c)) .args .words .now) (start (turn (stepped c)) .args .a .now) (start (turn (stepped c)) .args .b .now)
-    (stepped c .step .last .1 .1 .1 .1 .1 .1 .0) (stepped c .step .last .1 .1 .1 .1 .1 .1 .1 .0) (stepped c .step .last .1 .1 .1 .1 .1 .1 .1 .1 .0)
-    (c .before .after .given .0 .0) (turn (stepped c) .loop2 .k)
-ran-on c =
-    let s = stepped c .step in
-    let a = start (turn (stepped c)) .args in
-    let l = turn (stepped c) .loop2 in
-    turned (a .words .now) (a .a .now) (a .b .now) (l .c) (l .y) (l .x) (l .z) (l .k) (l .inv .1 .0) (l .inv .1 .1 .0) _ _ _ (s .result)
-    (s .kept .1 .1 .1 .1 .1 .1 .0) (s .kept .1 .1 .1 .1 .1 .1 .1 .0) (s .kept .1 .1 .1 .1 .1 .1 .1 .1 .0) (s .ensures .0) (s .ensures .1) _ (c .before .after .given .1)
+-- C, Y and X after the step
+abbrev after-c : Stepped → List Float
+after-c c = c .step .last .1 .1 .1 .1 .1 .1 .0
 
--- the lengths after a step are those at the inner loop's start, and those at the function's entry
-same-turn : (c : tie.After-step Inv-loop2 μ-loop2 Inv-loop μ-loop) → let l = turn c .before .before .loop in
-    SameLengths (l .c) (l .y) (l .x) (c .step .last .1 .1 .1 .1 .1 .1 .0) (c .step .last .1 .1 .1 .1 .1 .1 .1 .0) (c .step .last .1 .1 .1 .1 .1 .1 .1 .1 .0)
-same-turn c = same-lengths-trans (turn c .loop2 .inv .0) (record { of-c = c .step .kept .1 .1 .1 .1 .1 .1 .0; of-y = c .step .kept .1 .1 .1 .1 .1 .1 .1 .0; of-x = c .step .kept .1 .1 .1 .1 .1 .1 .1 .1 .0 })
+abbrev after-y : Stepped → List Float
+after-y c = c .step .last .1 .1 .1 .1 .1 .1 .1 .0
 
-same-entry : (c : tie.After-step Inv-loop2 μ-loop2 Inv-loop μ-loop) → let a = start (turn c) .args in
-    SameLengths (a .c .now) (a .y .now) (a .x .now) (c .step .last .1 .1 .1 .1 .1 .1 .0) (c .step .last .1 .1 .1 .1 .1 .1 .1 .0) (c .step .last .1 .1 .1 .1 .1 .1 .1 .1 .0)
+abbrev after-x : Stepped → List Float
+after-x c = c .step .last .1 .1 .1 .1 .1 .1 .1 .1 .0
+
+-- their lengths are those before it, those at the inner loop's start, and those at the function's entry
+same-step : (c : Stepped) → let l = turn c .loop2 in SameLengths (l .c) (l .y) (l .x) (after-c c) (after-y c) (after-x c)
+same-step c = let kept = c .step .kept .1 .1 .1 .1 .1 .1 in record { of-c = kept .0; of-y = kept .1 .0; of-x = kept .1 .1 .0 }
+
+same-turn : (c : Stepped) → let l = turn c .before .before .loop in SameLengths (l .c) (l .y) (l .x) (after-c c) (after-y c) (after-x c)
+same-turn c = same-lengths-trans (turn c .loop2 .inv .0) (same-step c)
+
+same-entry : (c : Stepped) → let a = start (turn c) .args in SameLengths (a .c .now) (a .y .now) (a .x .now) (after-c c) (after-y c) (after-x c)
 same-entry c = same-lengths-trans (turn c .before .before .loop .inv .0) (same-turn c)
+
+-- the run goes on after the step
+ran-on : (c : tie.After-known-told Inv-loop2 μ-loop2 Inv-loop μ-loop) → let s = going c in let a = start (turn s) .args in
+    LastRan (a .words .now) (a .a .now) (a .b .now) (after-c s) (after-y s) (after-x s) (c .before .after .given .0 .0) (turn s .loop2 .k)
+ran-on c =
+    let s = going c in
+    let at = turn s .loop2 .inv .1 in
+    turned _ _ _ _ _ _ _ _ (at .0) (at .1 .0) _ _ _ (s .step .result) (same-step s) (s .step .ensures .0) (s .step .ensures .1) _ (c .before .after .given .1)
 
 fresh-requires : tie.Need-fresh-requires Inv-loop2 μ-loop2 Inv-loop μ-loop
 fresh-requires c κs = search needs
 
 shared-slice-read-wide : tie.Need-shared-slice-read-wide Inv-loop2 μ-loop2 Inv-loop μ-loop
-shared-slice-read-wide c =
-    omega (
-      arith,
-      fine-passed (c .before .before .before .before .before .before .before .before .args .words .now)
-          (c .before .before .before .before .before .before .before .before .pre .checked),
-    )
+shared-slice-read-wide c = omega (arith, fine-passed (entry c .args .words .now) (entry c .pre .checked))
 
 wide-requires : tie.Need-wide-requires Inv-loop2 μ-loop2 Inv-loop μ-loop
 wide-requires c κs = search needs
 
 loop-holds : tie.Need-loop-holds Inv-loop2 μ-loop2 Inv-loop μ-loop
 loop-holds c =
-    let a = c .before .before .before .before .before .before .before .before .before .args in (
+    let a = entry (c .before) .args in (
       record { of-c = refl; of-y = refl; of-x = refl },
       record {
         last = 0;
         is = sym (c .wide .ensures);
         ran = subst (λ z. LastRan (a .words .now) (a .a .now) (a .b .now) (a .c .now) (a .y .now) (a .x .now) z 0) (sym (c .before .before .fresh .ensures))
-            (starts (a .words .now) (a .a .now) (a .b .now) (a .c .now) (a .y .now) (a .x .now) (c .before .before .before .before .before .before .before .before .before .pre));
+            (starts _ _ _ _ _ _ (entry (c .before) .pre));
       },
     )
 
@@ -90,40 +106,39 @@ loop2-holds : tie.Need-loop2-holds Inv-loop2 μ-loop2 Inv-loop μ-loop
 loop2-holds c = (record { of-c = refl; of-y = refl; of-x = refl }, (c .before .loop .inv .1, (c .loop-test .taken, omega arith)))
 
 mul-at : tie.Need-mul-at Inv-loop2 μ-loop2 Inv-loop μ-loop
-mul-at c = omega (arith, low (c), few (c))
+mul-at c = omega (arith, bounds c)
 
 add-following : tie.Need-add-following Inv-loop2 μ-loop2 Inv-loop μ-loop
-add-following c = omega (arith, low c, few c)
+add-following c = omega (arith, bounds c)
 
 mul-step : tie.Need-mul-step Inv-loop2 μ-loop2 Inv-loop μ-loop
-mul-step c = omega (arith, low (c), few (c))
+mul-step c = omega (arith, bounds c)
 
 shared-slice-read-step : tie.Need-shared-slice-read-step Inv-loop2 μ-loop2 Inv-loop μ-loop
-shared-slice-read-step c = omega (arith, low (c .before), few (c .before))
+shared-slice-read-step c = omega (arith, bounds (c .before))
 
 add-step : tie.Need-add-step Inv-loop2 μ-loop2 Inv-loop μ-loop
-add-step c = omega (arith, low (c .before), few (c .before))
+add-step c = omega (arith, bounds (c .before))
 
 mul-step-2 : tie.Need-mul-step-2 Inv-loop2 μ-loop2 Inv-loop μ-loop
-mul-step-2 c = omega (arith, low (c .before), few (c .before))
+mul-step-2 c = omega (arith, bounds (c .before))
 
 shared-slice-read-step-2 : tie.Need-shared-slice-read-step-2 Inv-loop2 μ-loop2 Inv-loop μ-loop
-shared-slice-read-step-2 c = omega (arith, low (c .before .before), few (c .before .before))
+shared-slice-read-step-2 c = omega (arith, bounds (c .before .before))
 
 add-step-2 : tie.Need-add-step-2 Inv-loop2 μ-loop2 Inv-loop μ-loop
-add-step-2 c = omega (arith, low (c .before .before), few (c .before .before))
+add-step-2 c = omega (arith, bounds (c .before .before))
 
 mul-step-3 : tie.Need-mul-step-3 Inv-loop2 μ-loop2 Inv-loop μ-loop
-mul-step-3 c = omega (arith, low (c .before .before), few (c .before .before))
+mul-step-3 c = omega (arith, bounds (c .before .before))
 
 shared-slice-read-step-3 : tie.Need-shared-slice-read-step-3 Inv-loop2 μ-loop2 Inv-loop μ-loop
-shared-slice-read-step-3 c = omega (arith, low (c .before .before .before), few (c .before .before .before))
+shared-slice-read-step-3 c = omega (arith, bounds (c .before .before .before))
 
 step-requires : tie.Need-step-requires Inv-loop2 μ-loop2 Inv-loop μ-loop
 step-requires c κs =
-    let a = start (c .before .before .before .before .before .before) .args in
-    let l = c .before .before .before .before .before .before .loop2 in
-    ready (a .words .now) (a .a .now) (a .b .now) (l .c) (l .y) (l .x) (l .z) (l .k) (l .inv .1 .0) (l .inv .1 .1 .0)
+    let at = c .before .before .before .before .before .before .loop2 .inv .1 in
+    ready _ _ _ _ _ _ _ _ (at .0) (at .1 .0)
 
 enum-known-after : tie.Need-enum-known-after Inv-loop2 μ-loop2 Inv-loop μ-loop
 enum-known-after c = search needs
@@ -132,57 +147,52 @@ enum-known-number : tie.Need-enum-known-number Inv-loop2 μ-loop2 Inv-loop μ-lo
 enum-known-number c = search needs
 
 cast-t35 : tie.Need-cast-t35 Inv-loop2 μ-loop2 Inv-loop μ-loop
-cast-t35 c = let t = c .before .before .before .before .before .before .before .before .before .before .before .before .before .before .before .before in omega (arith, low t, few t)
+cast-t35 c = omega (arith, bounds (turn (stopping c)))
 
 same-length : tie.Need-same-length Inv-loop2 μ-loop2 Inv-loop μ-loop
-same-length c = same-entry (c .before .before .before .before .before .before .before .before .before) .of-c
+same-length c = same-entry (stopping c) .of-c
 
 same-length-2 : tie.Need-same-length-2 Inv-loop2 μ-loop2 Inv-loop μ-loop
-same-length-2 c = same-entry (c .before .before .before .before .before .before .before .before .before) .of-y
+same-length-2 c = same-entry (stopping c) .of-y
 
 same-length-3 : tie.Need-same-length-3 Inv-loop2 μ-loop2 Inv-loop μ-loop
-same-length-3 c = same-entry (c .before .before .before .before .before .before .before .before .before) .of-x
+same-length-3 c = same-entry (stopping c) .of-x
 
 returns : tie.Need-returns Inv-loop2 μ-loop2 Inv-loop μ-loop
 returns c =
-    let s = c .before .before .before .before .before .before .before .before .before in
-    let a = start (turn s) .args in
-    let l = turn s .loop2 in
-    stopped-at (a .words .now) (a .a .now) (a .b .now) (l .c) (l .y) (l .x) (l .z) (l .k) (l .inv .1 .0) (l .inv .1 .1 .0) _ _ _ (s .step .result)
-    (s .step .kept .1 .1 .1 .1 .1 .1 .0) (s .step .kept .1 .1 .1 .1 .1 .1 .1 .0) (s .step .kept .1 .1 .1 .1 .1 .1 .1 .1 .0) (s .step .ensures .0) (s .step .ensures .1) _ (c .before .number .given .1)
+    let s = stopping c in
+    let at = turn s .loop2 .inv .1 in
+    stopped-at _ _ _ _ _ _ _ _ (at .0) (at .1 .0) _ _ _ (s .step .result) (same-step s) (s .step .ensures .0) (s .step .ensures .1) _ (c .before .number .given .1)
 
 add-wide : tie.Need-add-wide Inv-loop2 μ-loop2 Inv-loop μ-loop
-add-wide c = let t = c .before .before .before .before .before .before .before .before .before .before .before .before .before .before .before .before in omega (arith, low t, few t)
+add-wide c = omega (arith, bounds (turn (going c)))
 
 mul-wide : tie.Need-mul-wide Inv-loop2 μ-loop2 Inv-loop μ-loop
-mul-wide c = let t = c .before .before .before .before .before .before .before .before .before .before .before .before .before .before .before .before in omega (arith, low t, few t)
+mul-wide c = omega (arith, bounds (turn (going c)))
 
 shared-slice-read-wide-2 : tie.Need-shared-slice-read-wide-2 Inv-loop2 μ-loop2 Inv-loop μ-loop
-shared-slice-read-wide-2 c =
-    let t = c .before .before .before .before .before .before .before .before .before .before .before .before .before .before .before .before .before in omega (arith, low t, few t)
+shared-slice-read-wide-2 c = omega (arith, bounds (turn (going (c .before))))
 
 wide-requires-2 : tie.Need-wide-requires-2 Inv-loop2 μ-loop2 Inv-loop μ-loop
 wide-requires-2 c κs = search needs
 
 loop-less : tie.Need-loop-less Inv-loop2 μ-loop2 Inv-loop μ-loop
 loop-less c =
-    let s = stepped (c .before .before .before) in
-    let a = start (turn s) .args in
-    let l = turn s .loop2 in
-    gets-on (a .words .now) (a .a .now) (a .b .now) _ _ _ _ _ (l .k) (c .before .wide2 .result) (turn s .before .loop-test .taken) (l .inv .1 .1 .1) (low (turn s))
-    (ran-on (c .before .before .before)) (sym (c .before .wide2 .ensures))
+    let t = turn (going (c .before .before .before)) in
+    gets-on _ _ _ _ _ _ _ _ _ _ (t .before .loop-test .taken) (t .loop2 .inv .1 .1 .1) (bounds t .0) (ran-on (c .before .before .before))
+    (sym (c .before .wide2 .ensures))
 
 loop-again : tie.Need-loop-again Inv-loop2 μ-loop2 Inv-loop μ-loop
 loop-again c =
-    let s = stepped (c .before .before .before) in
+    let s = going (c .before .before .before) in
     (same-entry s, record { last = turn s .loop2 .k; is = sym (c .before .wide2 .ensures); ran = ran-on (c .before .before .before) })
 
 loop2-less : tie.Need-loop2-less Inv-loop2 μ-loop2 Inv-loop μ-loop
-loop2-less c = omega (arith, low (c .before .before .before .before .before .before .before .before .before .before .before .before .before .before .before .before .before .before .before))
+loop2-less c = omega (arith, bounds (turn (going (c .before .before .before))))
 
 loop2-again : tie.Need-loop2-again Inv-loop2 μ-loop2 Inv-loop μ-loop
 loop2-again c =
-    let s = stepped (c .before .before .before) in (
+    let s = going (c .before .before .before) in (
       same-turn s,
       (
         record { last = turn s .loop2 .k; is = sym (c .before .wide2 .ensures) ∙ c .if1 .left; ran = ran-on (c .before .before .before) },
@@ -201,9 +211,9 @@ same-length-6 c = c .before .loop .inv .0 .of-x
 
 returns-2 : tie.Need-returns-2 Inv-loop2 μ-loop2 Inv-loop μ-loop
 returns-2 c =
-    let a = c .before .before .before .before .before .before .before .before .before .before .before .args in
+    let a = entry (c .before .before .before) .args in
     let l = c .before .loop in
-    ended (a .words .now) (a .a .now) (a .b .now) (l .c) (l .y) (l .x) (l .z) (subst (NextRuns (a .words .now) (a .a .now) (a .b .now) (l .c) (l .y) (l .x) (l .z)) (c .loop-test .left) (l .inv .1))
+    ended _ _ _ _ _ _ _ (subst (NextRuns (a .words .now) (a .a .now) (a .b .now) (l .c) (l .y) (l .x) (l .z)) (c .loop-test .left) (l .inv .1))
 
 pub follow-spec : {M : Type 1} → statement M
 follow-spec =
