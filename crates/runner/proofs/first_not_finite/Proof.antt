@@ -36,22 +36,25 @@ shared-slice-read-is-finite c = omega arith
 is-finite-requires : tie.Need-is-finite-requires Inv-loop μ-loop
 is-finite-requires c κs = search needs
 
+-- the turn's value, as it was tested
+tested : (c : tie.After-is-finite Inv-loop μ-loop)
+    → isFinite (getD (c .before .before .before .before .before .args .values .now) (c .before .before .before .loop .i) plusZero) ≡ c .is-finite .result
+tested c =
+    let vs = c .before .before .before .before .before .args .values .now in
+    ap isFinite (getD-within vs (c .before .before .before .loop .i) plusZero nan (omega arith)) ∙ sym (c .is-finite .ensures)
+
 returns : tie.Need-returns Inv-loop μ-loop
 returns c =
-    let vs = c .before .before .before .before .before .before .args .values .now in
     let l = c .before .before .before .before .loop in
-    let off : isFinite (getD vs (l .i) plusZero) ≡ false = ap isFinite (getD-within vs (l .i) plusZero nan (omega arith)) ∙ sym (c .before .is-finite .ensures) ∙ not-true _ (c .if1 .taken) in
-    add-one (l .i) ∙ sym (l .inv .1 ∙ finite-not vs (l .i) (omega arith) off)
+    add-one (l .i) ∙ sym (l .inv .1 ∙ finite-not _ (l .i) (omega arith) (tested (c .before) ∙ not-true _ (c .if1 .taken)))
 
 loop-less : tie.Need-loop-less Inv-loop μ-loop
 loop-less c = omega arith
 
 loop-again : tie.Need-loop-again Inv-loop μ-loop
 loop-again c =
-    let vs = c .before .before .before .before .before .before .args .values .now in
     let l = c .before .before .before .before .loop in
-    let on : isFinite (getD vs (l .i) plusZero) ≡ true = ap isFinite (getD-within vs (l .i) plusZero nan (omega arith)) ∙ sym (c .before .is-finite .ensures) ∙ not-false _ (c .if1 .left) in
-    (omega arith, rw add-one (l .inv .1 ∙ finite-on vs (l .i) (omega arith) on))
+    (omega arith, rw add-one (l .inv .1 ∙ finite-on _ (l .i) (omega arith) (tested (c .before) ∙ not-false _ (c .if1 .left))))
 
 returns-2 : tie.Need-returns-2 Inv-loop μ-loop
 returns-2 c = sym (c .before .loop .inv .1 ∙ finite-all (c .before .before .before .args .values .now) (c .before .loop .i) (omega arith))

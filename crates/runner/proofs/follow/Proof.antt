@@ -162,7 +162,8 @@ returns : tie.Need-returns Inv-loop2 μ-loop2 Inv-loop μ-loop
 returns c =
     let s = stopping c in
     let at = turn s .loop2 .inv .1 in
-    stopped-at _ _ _ _ _ _ _ _ (at .0) (at .1 .0) _ _ _ (s .step .result) (same-step s) (s .step .ensures .0) (s .step .ensures .1) _ (c .before .number .given .1)
+    stopped-at _ _ _ _ _ _ _ _ (at .0) (at .1 .0) _ _ _ (s .step .result) (same-step s) (s .step .ensures .0) (s .step .ensures .1) _
+    (c .before .number .given .1)
 
 add-wide : tie.Need-add-wide Inv-loop2 μ-loop2 Inv-loop μ-loop
 add-wide c = omega (arith, bounds (turn (going c)))

@@ -22,49 +22,59 @@ shared-slice-read-wide-3 c = search needs
 wide-requires-3 : tie.Need-wide-requires-3
 wide-requires-3 c κs = search needs
 
+-- Places of the code: where the order is read, and where n is, seen from where s is read.
+abbrev order : tie.After-wide3 → tie.After-wide
+order c = c .before .before .before .before .before .before
+
+abbrev coefficients : tie.After-wide3 → tie.After-wide2
+coefficients c = c .before .before .before .before
+
 returns : tie.Need-returns
 returns c =
-    let order = c .before .before .before .before .before .before .before .before .wide in
-    let coefficients = c .before .before .before .before .before .before .wide2 in
+    let s = c .before .before in
     rw (
-      ← order .ensures,
-      ← coefficients .ensures,
-      ← c .before .before .wide3 .ensures,
-      eq-eqb _ _ (c .before .before .before .before .before .if1 .taken),
-      eq-eqb _ _ (c .before .before .before .before .if2 .taken),
+      ← order s .wide .ensures,
+      ← coefficients s .wide2 .ensures,
+      ← s .wide3 .ensures,
+      eq-eqb _ _ (s .before .before .before .if1 .taken),
+      eq-eqb _ _ (s .before .before .if2 .taken),
       eq-eqb _ _ (c .before .if3 .taken),
       eq-eqb _ _ (c .if4 .taken),
     )
 
 returns-2 : tie.Need-returns-2
 returns-2 c =
-    let order = c .before .before .before .before .before .before .before .before .wide in
-    let coefficients = c .before .before .before .before .before .before .wide2 in
+    let s = c .before .before in
     rw (
-      ← order .ensures,
-      ← coefficients .ensures,
-      ← c .before .before .wide3 .ensures,
-      eq-eqb _ _ (c .before .before .before .before .before .if1 .taken),
-      eq-eqb _ _ (c .before .before .before .before .if2 .taken),
+      ← order s .wide .ensures,
+      ← coefficients s .wide2 .ensures,
+      ← s .wide3 .ensures,
+      eq-eqb _ _ (s .before .before .before .if1 .taken),
+      eq-eqb _ _ (s .before .before .if2 .taken),
       eq-eqb _ _ (c .before .if3 .taken),
       ne-eqb _ _ (c .if4 .left),
     )
 
 returns-3 : tie.Need-returns-3
 returns-3 c =
-    let order = c .before .before .before .before .before .before .before .wide in
-    let coefficients = c .before .before .before .before .before .wide2 in
+    let s = c .before in
     rw (
-      ← order .ensures,
-      ← coefficients .ensures,
-      ← c .before .wide3 .ensures,
-      eq-eqb _ _ (c .before .before .before .before .if1 .taken),
-      eq-eqb _ _ (c .before .before .before .if2 .taken),
+      ← order s .wide .ensures,
+      ← coefficients s .wide2 .ensures,
+      ← s .wide3 .ensures,
+      eq-eqb _ _ (s .before .before .before .if1 .taken),
+      eq-eqb _ _ (s .before .before .if2 .taken),
       ne-eqb _ _ (c .if3 .left),
     )
 
 returns-4 : tie.Need-returns-4
-returns-4 c = rw (← c .before .before .before .before .wide .ensures, ← c .before .before .wide2 .ensures, eq-eqb _ _ (c .before .if1 .taken), ne-eqb _ _ (c .if2 .left))
+returns-4 c =
+    rw (
+      ← c .before .before .before .before .wide .ensures,
+      ← c .before .before .wide2 .ensures,
+      eq-eqb _ _ (c .before .if1 .taken),
+      ne-eqb _ _ (c .if2 .left),
+    )
 
 returns-5 : tie.Need-returns-5
 returns-5 c = rw (← c .before .before .before .wide .ensures, ← c .before .wide2 .ensures, ne-eqb _ _ (c .if1 .left))
