@@ -40,10 +40,12 @@ pub fn run(
     y: &mut [f64],
     x: &mut [f64],
 ) -> Outcome
-    ensures { λ r. ⌜ replyOf r ≡ Run.reply (Run.ran (now (words .entry)) (now (a .entry)) (now (b .entry)) (length (now (c .entry))) (length (now (y .entry))) (length (now (x .entry)))) ⌝ }
-    ensures { λ r. ⌜ now (c .exit) ≡ Run.leaves (Run.ran (now (words .entry)) (now (a .entry)) (now (b .entry)) (length (now (c .entry))) (length (now (y .entry))) (length (now (x .entry)))) C (now (c .entry)) ⌝ }
-    ensures { λ r. ⌜ now (y .exit) ≡ Run.leaves (Run.ran (now (words .entry)) (now (a .entry)) (now (b .entry)) (length (now (c .entry))) (length (now (y .entry))) (length (now (x .entry)))) Y (now (y .entry)) ⌝ }
-    ensures { λ r. ⌜ now (x .exit) ≡ Run.leaves (Run.ran (now (words .entry)) (now (a .entry)) (now (b .entry)) (length (now (c .entry))) (length (now (y .entry))) (length (now (x .entry)))) X (now (x .entry)) ⌝ }
+    ensures { λ r. let end = Run.ran (now (words .entry)) (now (a .entry)) (now (b .entry))
+        (length (now (c .entry))) (length (now (y .entry))) (length (now (x .entry))) in
+        ⌜ (replyOf r ≡ Run.reply end)
+        × ((now (c .exit) ≡ Run.leaves end C (now (c .entry)))
+        × ((now (y .exit) ≡ Run.leaves end Y (now (y .entry)))
+        × (now (x .exit) ≡ Run.leaves end X (now (x .entry))))) ⌝ }
 {
     let checked = checker::check(words);
     if let Checked::Refused { number, detail } = checked {
@@ -95,10 +97,11 @@ fn run_records(
     x: &mut [f64],
 ) -> Outcome
     requires { ⌜ Fit (now words) (length (now a)) (length (now b)) (length (now c)) (length (now y)) (length (now x)) ⌝ }
-    ensures { λ r. ⌜ replyOf r ≡ Run.reply (done (now (words .entry)) (now (a .entry)) (now (b .entry))) ⌝ }
-    ensures { λ r. ⌜ now (c .exit) ≡ Run.leaves (done (now (words .entry)) (now (a .entry)) (now (b .entry))) C (now (c .entry)) ⌝ }
-    ensures { λ r. ⌜ now (y .exit) ≡ Run.leaves (done (now (words .entry)) (now (a .entry)) (now (b .entry))) Y (now (y .entry)) ⌝ }
-    ensures { λ r. ⌜ now (x .exit) ≡ Run.leaves (done (now (words .entry)) (now (a .entry)) (now (b .entry))) X (now (x .entry)) ⌝ }
+    ensures { λ r. let end = done (now (words .entry)) (now (a .entry)) (now (b .entry)) in
+        ⌜ (replyOf r ≡ Run.reply end)
+        × ((now (c .exit) ≡ Run.leaves end C (now (c .entry)))
+        × ((now (y .exit) ≡ Run.leaves end Y (now (y .entry)))
+        × (now (x .exit) ≡ Run.leaves end X (now (x .entry))))) ⌝ }
 {
     let outcome = follow(words, a, b, c, y, x);
     if let Outcome::Solved {
@@ -124,10 +127,11 @@ fn follow(
     x: &mut [f64],
 ) -> Outcome
     requires { ⌜ Fit (now words) (length (now a)) (length (now b)) (length (now c)) (length (now y)) (length (now x)) ⌝ }
-    ensures { λ r. ⌜ replyOf r ≡ Run.reply (done (now (words .entry)) (now (a .entry)) (now (b .entry))) ⌝ }
-    ensures { λ r. ⌜ now (c .exit) ≡ stands (done (now (words .entry)) (now (a .entry)) (now (b .entry))) C (now (c .exit)) ⌝ }
-    ensures { λ r. ⌜ now (y .exit) ≡ stands (done (now (words .entry)) (now (a .entry)) (now (b .entry))) Y (now (y .exit)) ⌝ }
-    ensures { λ r. ⌜ now (x .exit) ≡ stands (done (now (words .entry)) (now (a .entry)) (now (b .entry))) X (now (x .exit)) ⌝ }
+    ensures { λ r. let end = done (now (words .entry)) (now (a .entry)) (now (b .entry)) in
+        ⌜ (replyOf r ≡ Run.reply end)
+        × ((now (c .exit) ≡ stands end C (now (c .exit)))
+        × ((now (y .exit) ≡ stands end Y (now (y .exit)))
+        × (now (x .exit) ≡ stands end X (now (x .exit))))) ⌝ }
 {
     let mut z = state::fresh();
     let mut next = wide(words[3]);

@@ -7,7 +7,6 @@ use lib.ListN.{length, drop, getD}
 use lib.Ieee.{nan}
 use borrow.Author.Needs.{needs}
 use borrow.Author.Tests.{not-true, not-false}
-use mathlib.Core.Bool.{true, false}
 use Rattle.model.specs.Arith.{plusZero, isFinite}
 use Rattle.model.specs.Run.{notFinite}
 use Rattle.state.proofs.Tables.{getD-within}
