@@ -29,13 +29,18 @@ pub fn solve(
     y: &mut [f64],
     x: &mut [f64],
 ) -> Solved
-    ensures answer { λ r. ⌜ tellsOf (replyOf r) ≡ told (solving n (now (plan .entry)) (now (a .entry)) (now (b .entry)) (length (now (work .entry))) (length (now (words .entry))) (length (now (c .entry))) (length (now (y .entry))) (length (now (x .entry)))) ⌝ }
-    ensures record { λ r. ⌜ replyOf r ≡ replied n (now (plan .entry)) (now (a .entry)) (now (b .entry)) (length (now (work .entry))) (length (now (words .entry))) (length (now (c .entry))) (length (now (y .entry))) (length (now (x .entry))) ⌝ }
+    ensures answer { λ r. let end = solving n (now (plan .entry)) (now (a .entry)) (now (b .entry)) (length (now (work .entry)))
+        (length (now (words .entry))) (length (now (c .entry))) (length (now (y .entry))) (length (now (x .entry))) in
+        ⌜ tellsOf (replyOf r) ≡ told end ⌝ }
+    ensures record { λ r. ⌜ replyOf r ≡ replied n (now (plan .entry)) (now (a .entry)) (now (b .entry)) (length (now (work .entry)))
+        (length (now (words .entry))) (length (now (c .entry))) (length (now (y .entry))) (length (now (x .entry))) ⌝ }
     ensures work { λ r. ⌜ now (work .exit) ≡ workAfter n (now (plan .entry)) (now (work .entry)) (length (now (words .entry))) ⌝ }
     ensures words { λ r. ⌜ now (words .exit) ≡ wordsAfter n (now (plan .entry)) (length (now (work .entry))) (now (words .entry)) ⌝ }
-    ensures c { λ r. ⌜ now (c .exit) ≡ leftIn (solving n (now (plan .entry)) (now (a .entry)) (now (b .entry)) (length (now (work .entry))) (length (now (words .entry))) (length (now (c .entry))) (length (now (y .entry))) (length (now (x .entry)))) C (now (c .entry)) ⌝ }
-    ensures y { λ r. ⌜ now (y .exit) ≡ leftIn (solving n (now (plan .entry)) (now (a .entry)) (now (b .entry)) (length (now (work .entry))) (length (now (words .entry))) (length (now (c .entry))) (length (now (y .entry))) (length (now (x .entry)))) Y (now (y .entry)) ⌝ }
-    ensures x { λ r. ⌜ now (x .exit) ≡ leftIn (solving n (now (plan .entry)) (now (a .entry)) (now (b .entry)) (length (now (work .entry))) (length (now (words .entry))) (length (now (c .entry))) (length (now (y .entry))) (length (now (x .entry)))) X (now (x .entry)) ⌝ }
+    ensures tables { λ r. let end = solving n (now (plan .entry)) (now (a .entry)) (now (b .entry)) (length (now (work .entry)))
+        (length (now (words .entry))) (length (now (c .entry))) (length (now (y .entry))) (length (now (x .entry))) in
+        ⌜ (now (c .exit) ≡ leftIn end C (now (c .entry)))
+        × ((now (y .exit) ≡ leftIn end Y (now (y .entry)))
+        × (now (x .exit) ≡ leftIn end X (now (x .entry)))) ⌝ }
 {
     match compiler::compile(n, plan, work, words) {
         Compilation::Refused { number, detail } => Outcome::Refused { number, detail },

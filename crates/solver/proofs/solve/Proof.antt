@@ -1,6 +1,7 @@
 -- `solver::solve` answers and leaves what the model says: the compiler's refusal, or the ending of the compiled program's run, which is dense Crout's.
 use Prim.Native.Nat.{_*_, _≤_}
-use mathlib.Core.Path.{_≡_, sym, ap, _∙_}
+use native.Mathlib.Omega.{arith}
+use mathlib.Core.Path.{_≡_, sym, ap, ap₂, _∙_}
 use denote.Ref.{now}
 use lib.ListN.{length, take}
 use lib.Seq.{length-take-le}
@@ -13,17 +14,36 @@ use Rattle.compiler.specs.Compilation.{compiledOf}
 use Rattle.solver.proofs.solve.Statement.{statement}
 use Rattle.solver.proofs.solve.Tie as tie
 
+-- Places of the code: where the slices of A and B are known, and before it the entry, seen from the compiler's answer; that answer, seen from where it is
+-- told as a refusal, and from where the program's end is known; and the run's answer, seen from the end.
+abbrev lent : tie.After-compile → tie.After-shared-slice-known3
+lent c = c .before .before .before .before .before .before .before .before
+
+abbrev entry : tie.After-compile → tie.Start
+entry c = lent c .before .before .before
+
+abbrev refused : tie.After-known-told → tie.After-compile
+refused c = c .before .before .before .before .before .before .before
+
+abbrev accepted : tie.After-wide → tie.After-compile
+accepted c = c .before .before .before .before .before .before .before .before
+
+abbrev ran : tie.After-slice-known10 → tie.After-run
+ran c = c .before .before .before .before .before .before
+
 -- the compiler wrote the program, and it stands at the start of the words
-succeeded : (w : tie.After-wide) → let a = w .before .before .before .before .before .before .before .before .before .before .before .before .before .before .before .before .before .before .before .args in let v = w .before .before .records .given .0 in
+succeeded : (w : tie.After-wide) → let a = entry (accepted w) .args in let v = w .before .before .records .given .0 in
     compiles (a .n) (now (a .plan)) (length (now (a .work))) (length (now (a .words))) ≡ written (v .0) (v .1 .0) (v .1 .1 .0)
-succeeded w = sym (w .before .before .before .before .before .before .before .before .compile .ensures .0) ∙ ap compiledOf (w .before .before .records .given .1)
+succeeded w = sym (accepted w .compile .ensures .0) ∙ ap compiledOf (w .before .before .records .given .1)
 
-fits : (w : tie.After-wide) → 4 * w .wide .result ≤ length (w .before .before .before .before .before .before .before .before .compile .last .1 .1 .1 .0)
-fits w = rw (w .wide .ensures, w .before .before .before .before .before .before .before .before .compile .ensures .1 .1) (program-fits _ _ _ _ _ _ _ (succeeded w))
+fits : (w : tie.After-wide) → 4 * w .wide .result ≤ length (accepted w .compile .last .1 .1 .1 .0)
+fits w =
+    let words = entry (accepted w) .args .words in
+    omega (arith, w .wide .ensures, ap length (accepted w .compile .ensures .1 .1), program-fits _ _ _ (now words) _ _ _ (succeeded w))
 
-taken : (w : tie.After-wide) → let a = w .before .before .before .before .before .before .before .before .before .before .before .before .before .before .before .before .before .before .before .args in
-    take (4 * w .wide .result) (w .before .before .before .before .before .before .before .before .compile .last .1 .1 .1 .0) ≡ compiled (a .n) (now (a .plan))
-taken w = rw (w .wide .ensures, w .before .before .before .before .before .before .before .before .compile .ensures .1 .1) (program-taken _ _ _ _ _ _ _ (succeeded w))
+taken : (w : tie.After-wide) → let a = entry (accepted w) .args in
+    take (4 * w .wide .result) (accepted w .compile .last .1 .1 .1 .0) ≡ compiled (a .n) (now (a .plan))
+taken w = ap₂ (λ m words. take (4 * m) words) (w .wide .ensures) (accepted w .compile .ensures .1 .1) ∙ program-taken _ _ _ _ _ _ _ (succeeded w)
 
 compile-requires : tie.Need-compile-requires
 compile-requires c κs = search needs
@@ -57,7 +77,7 @@ same-length-2 c = search needs
 
 returns : tie.Need-returns
 returns c =
-    let call = c .before .before .before .before .before .before .before .compile .ensures in
+    let call = refused c .compile .ensures in
     let e = refused-solves _ _ _ _ _ _ _ _ _ _ _ (sym (call .0) ∙ ap compiledOf (c .before .number .given .1)) in
     (e .tells, (e .replies, (call .1 .0, (call .1 .1, (e .c-is, (e .y-is, e .x-is))))))
 
@@ -78,14 +98,14 @@ same-length-7 c = search needs
 
 returns-2 : tie.Need-returns-2
 returns-2 c =
-    let start = c .before .before .before .before .before .before .before .before .before .before .before .before .before .before .before .before .before .before .before .before .before .before .before .before .before .before .before .before .before .before .args in
-    let call = c .before .before .before .before .before .before .before .before .before .before .before .before .before .before .before .before .before .before .before .compile .ensures in
-    let wide = c .before .before .before .before .before .before .before .before .before .before .before in
-    let ran = rw (taken wide) at (c .before .before .before .before .before .before .run .ensures) in
-    let known = wide .before .before .before .before .before .before .before .before .before .before .before .before .before .before .before .before in
+    let wide = ran c .before .before .before .before .before in
+    let known = lent (accepted wide) in
+    let start = entry (accepted wide) .args in
+    let call = accepted wide .compile .ensures in
+    let run = rw (taken wide) at (ran c .run .ensures) in
     let e = ran-solves _ _ _ _ _ _ (now (start .c)) (now (start .y)) (now (start .x)) _ _ _ (succeeded wide)
     (known .before .shared-slice-known2 .given) (known .shared-slice-known3 .given) in
-    (ap tellsOf (ran .0) ∙ e .tells, (ran .0 ∙ e .replies, (call .1 .0, (call .1 .1, (ran .1 .0 ∙ e .c-is, (ran .1 .1 .0 ∙ e .y-is, ran .1 .1 .1 ∙ e .x-is))))))
+    (ap tellsOf (run .0) ∙ e .tells, (run .0 ∙ e .replies, (call .1 .0, (call .1 .1, (run .1 .0 ∙ e .c-is, (run .1 .1 .0 ∙ e .y-is, run .1 .1 .1 ∙ e .x-is))))))
 
 pub solve-spec : {M : Type 1} → statement M
 solve-spec =
