@@ -2,11 +2,11 @@
 use Prim.Native.Nat.{ℕ, _+_, _*_, _/_, _≤_, _<_}
 use native.Mathlib.Omega.{arith}
 use mathlib.Core.Path.{_≡_, refl, sym, ap, ap₂, subst, _∙_}
-use mathlib.Core.Bool.{Bool, true, false, _&&_, and-eq-true-iff}
+use mathlib.Core.Bool.{Bool, true, false, _&&_}
 use mathlib.Core.List.{List, _∷_}
 use lib.Dec.{ltb, eqb}
 use lib.ListN.{length}
-use borrow.Author.Tests.{ltb-true, eq-eqb, ne-eqb}
+use borrow.Author.Tests.{eq-eqb, ne-eqb}
 use Rattle.model.specs.Check as Check
 use Rattle.model.specs.Check.{word, nextOf, whole, broken, Link, End, Chain, Verdict, refusal, kindOf, formed, inOrder, inTurn, onward, atEnd, checkLinks}
 use Rattle.model.proofs.Following.{chainFrom, chain-from, chain-ends, chain-breaks, chain-goes, check-ended, check-link}
@@ -31,27 +31,21 @@ abbrev pub rest : Head → List ℕ → Check.Progress → ℕ → Verdict
 rest h W g k = checkLinks (h .order) (h .coefficients) (h .slots) g (chainFrom W k .links) (chainFrom W k .end)
 
 -- what holds at the head of a loop: what is to be answered is the check from record k on, and no more entries are closed than records passed
-pub record Going (h : Head) (W : List ℕ) (g : Progress) (k : ℕ) : Type 0 where
+pub record CheckAfter (h : Head) (W : List ℕ) (g : Progress) (k : ℕ) : Type 0 where
   pub same : followed h W ≡ rest h W (progressOf g) k
   pub inside : k < length W / 4
   pub few : total (progressOf g) ≤ k
 
--- what check 9 says of a next index that may stand
-pub next-true : (k n records : ℕ) → ltb k n && ltb n records ≡ true → (k < n) × (n < records)
-next-true k n records e =
-    let both = and-eq-true-iff (ltb k n) (ltb n records) .0 e in
-    (ltb-true k n (both .0), ltb-true n records (both .1))
-
 -- record k names n as next, and n may stand there
 pub record Facing (h : Head) (W : List ℕ) (g : Progress) (k n : ℕ) : Type 0 where
-  pub here : Going h W g k
+  pub here : CheckAfter h W g k
   pub is : n ≡ nextOf W k
   pub up : k < n
   pub low : n < length W / 4
 
 -- one turn: record k names n as next, and r is the refusal of record n, or 0
 pub record Turn (h : Head) (W : List ℕ) (g : Progress) (k n r : ℕ) : Type 0 where
-  pub here : Going h W g k
+  pub here : CheckAfter h W g k
   pub is : n ≡ nextOf W k
   pub up : k < n
   pub low : n < length W / 4
@@ -83,19 +77,23 @@ module _ (h : Head) (W : List ℕ) where
   along : Check.Progress → Chain → Verdict
   along g d = checkLinks (h .order) (h .coefficients) (h .slots) g (d .links) (d .end)
 
-  -- where a loop begins; where it ends, at a zero or at an index that may not stand; and what a turn leads to
-  pub begins : (g : Progress) → progressOf g ≡ Check.begun → 0 < length W / 4 → Going h W g 0
+  -- before the first record; where the chain check-refuses, at a zero or at an index that may not stand; and what a turn leads to
+  pub check-begins : (g : Progress) → progressOf g ≡ Check.begun → 0 < length W / 4 → CheckAfter h W g 0
   unfolding along
-  begins g e some = record { same = ap (along Check.begun) (chain-from W) ∙ ap (λ m. rest h W m 0) (sym e); inside = some; few = omega (arith, ap total e) }
+  check-begins g e some = record {
+    same = ap (along Check.begun) (chain-from W) ∙ ap (λ m. rest h W m 0) (sym e);
+    inside = some;
+    few = omega (arith, ap total e);
+  }
 
-  module _ (g : Progress) (k : ℕ) (here : Going h W g k) where
-    pub ends : nextOf W k ≡ 0 → atEnd (h .order) (h .slots) (progressOf g) whole ≡ followed h W
+  module _ (g : Progress) (k : ℕ) (here : CheckAfter h W g k) where
+    pub check-ends : nextOf W k ≡ 0 → atEnd (h .order) (h .slots) (progressOf g) whole ≡ followed h W
     unfolding along
-    ends e = sym (here .same ∙ ap (along (progressOf g)) (chain-ends W k e) ∙ check-ended _ _ _ (progressOf g) whole)
+    check-ends e = sym (here .same ∙ ap (along (progressOf g)) (chain-ends W k e) ∙ check-ended _ _ _ (progressOf g) whole)
 
-    pub breaks : (n records : ℕ) → n ≡ nextOf W k → records ≡ length W / 4 → (n ≡ 0 → ⊥) → ltb k n && ltb n records ≡ false → refusal 9 k ≡ followed h W
+    pub check-breaks : (n records : ℕ) → n ≡ nextOf W k → records ≡ length W / 4 → (n ≡ 0 → ⊥) → ltb k n && ltb n records ≡ false → refusal 9 k ≡ followed h W
     unfolding along
-    breaks n records is size some bad =
+    check-breaks n records is size some bad =
         let refused = ap₂ (λ n records. ltb k n && ltb n records) (sym is) (sym size) ∙ bad in
         sym (here .same ∙ ap (along (progressOf g)) (chain-breaks W k (λ e. some (is ∙ e)) refused) ∙ check-ended _ _ _ (progressOf g) (broken k))
 
@@ -113,10 +111,10 @@ module _ (h : Head) (W : List ℕ) where
         (sym (t .is)) (links g k (t .here) (omega arith) (omega arith))
         ∙ ap (λ r. unless r n (rest h W (onward (kindOf (word W (4 * n))) (progressOf g)) n)) (sym (t .refusal-is))
 
-    pub goes-on : r ≡ 0 → (g′ : Progress) → progressOf g′ ≡ onward (kindOf (word W (4 * n))) (progressOf g) → Going h W g′ n
-    goes-on none g′ e =
+    pub check-goes-on : r ≡ 0 → (g′ : Progress) → progressOf g′ ≡ onward (kindOf (word W (4 * n))) (progressOf g) → CheckAfter h W g′ n
+    check-goes-on none g′ e =
         let few : total (progressOf g′) ≤ n = omega (arith, onward-total (kindOf (word W (4 * n))) (progressOf g), ap total e) in
         record { same = turned ∙ unless-none r n _ none ∙ ap (λ m. rest h W m n) (sym e); inside = t .low; few = few }
 
-    pub stops : (r ≡ 0 → ⊥) → refusal r n ≡ followed h W
-    stops some = sym (turned ∙ unless-some r n _ some)
+    pub check-refuses : (r ≡ 0 → ⊥) → refusal r n ≡ followed h W
+    check-refuses some = sym (turned ∙ unless-some r n _ some)

@@ -1,21 +1,22 @@
 -- Checks 7, 8 and 18, before the chain.
 use Prim.Native.Nat.{ℕ, _/_, _%_, _≤_, _<_}
 use mathlib.Core.Path.{_≡_, refl, sym, ap, ap₂, _∙_}
-use mathlib.Core.Bool.{Bool, true, false, _&&_, and-eq-true-iff}
+use mathlib.Core.Bool.{Bool, true, false, _&&_}
 use mathlib.Core.List.{List}
 use lib.Dec.{leb, ltb, eqb}
 use lib.ListN.{length}
 use borrow.Author.Tests.{ltb-true, leb-true, eqb-true, eq-eqb, ne-eqb}
 use Rattle.model.specs.Check.{word, Verdict, refusal, check}
 use Rattle.model.specs.File.{wordsOf, checkFile}
+use Rattle.model.proofs.Passing.{both}
 use Rattle.progress.specs.declared.Head.{Head}
 use Rattle.checker.specs.Whole.{countFits, headFits, followed}
 
 pub count-true : (n : ℕ) → countFits n ≡ true → (0 < n) × ((n % 4 ≡ 0) × (n / 4 ≤ 100000000))
 count-true n e =
-    let both = and-eq-true-iff (ltb 0 n) (eqb (n % 4) 0 && leb (n / 4) 100000000) .0 e in
-    let rest = and-eq-true-iff (eqb (n % 4) 0) (leb (n / 4) 100000000) .0 (both .1) in
-    (ltb-true 0 n (both .0), (eqb-true (n % 4) 0 (rest .0), leb-true (n / 4) 100000000 (rest .1)))
+    let some = both (ltb 0 n) (eqb (n % 4) 0 && leb (n / 4) 100000000) e in
+    let rest = both (eqb (n % 4) 0) (leb (n / 4) 100000000) (some .1) in
+    (ltb-true 0 n (some .0), (eqb-true (n % 4) 0 (rest .0), leb-true (n / 4) 100000000 (rest .1)))
 
 -- 7, then 8, then what the chain gives
 abbrev whole : Bool → Bool → Verdict → Verdict

@@ -23,6 +23,12 @@ both a b = and-eq-true-iff a b .0
 abbrev pub eight : ℕ → ℕ → ℕ → Bool
 eight N n s = isOrder N && (leb n (N * N) && (leb N s && leb s (N * N)))
 
+-- 9's test, of the next index n of record k
+pub next-range : (k n records : ℕ) → ltb k n && ltb n records ≡ true → (k < n) × (n < records)
+next-range k n records e =
+    let t = both (ltb k n) (ltb n records) e in
+    (ltb-true k n (t .0), ltb-true n records (t .1))
+
 -- what passes 7 to 13
 pub record Passed (W : List ℕ) : Type 0 where
   pub some : 0 < length W

@@ -4,15 +4,14 @@ use native.Mathlib.Omega.{arith}
 use mathlib.Core.Path.{_≡_, refl, sym, ap, subst, _∙_}
 use mathlib.Core.Bool.{Bool, true, false}
 use mathlib.Core.List.{List, [], _∷_}
-use lib.Dec.{ltb}
 use lib.ListN.{length}
 use lib.Ieee.{Float}
-use borrow.Author.Tests.{ltb-true}
 use Rattle.model.specs.Program.{Record}
-use Rattle.model.specs.Check.{word, recordAt, nextOf, Link, Chain, chain, Open, idle, fine, refusal, Kind, kindOf, inOrder, inTurn, onward, complete, checkLinks}
+use Rattle.model.specs.Check.{word, recordAt, nextOf, Link, Chain, chain, Open, idle, fine, refusal, Kind, kindOf}
+use Rattle.model.specs.Check.{inOrder, inTurn, onward, complete, checkLinks}
 use Rattle.model.specs.Run.{State, Outcome, solution, stopped, refusedBy, Stepped, going, stop, step, follow, fresh}
 use Rattle.model.proofs.Following.{follows, chainFrom, chain-from, chain-ends, chain-breaks, chain-goes}
-use Rattle.model.proofs.Passing.{refused-fine, both, Passed, link-passed, end-passed}
+use Rattle.model.proofs.Passing.{refused-fine, next-range, Passed, link-passed, end-passed}
 use Rattle.model.proofs.Stepping.{progressIn, OpenRoom, AfterStep, after-step}
 
 -- how a run goes on after a step at record k
@@ -79,9 +78,7 @@ module _ (A B : List Float) (W : List ℕ) where
       where
         fits : (b : Bool) → follows W k (nextOf W k) ≡ b → (follows W k (nextOf W k) ≡ false → refusal 9 k ≡ fine)
             → (k < nextOf W k) × (nextOf W k < length W / 4)
-        fits true e checks =
-            let t = both (ltb k (nextOf W k)) (ltb (nextOf W k) (length W / 4)) e in
-            (ltb-true k (nextOf W k) (t .0), ltb-true (nextOf W k) (length W / 4) (t .1))
+        fits true e checks = next-range k (nextOf W k) (length W / 4) e
         fits false e checks = absurd (refused-fine 9 k (checks e))
 
     pub run-next : (nextOf W k ≡ 0 → ⊥) → let n = nextOf W k in RunBefore z n (kindOf (word W (4 * n))) (word W (4 * n + 1)) (word W (4 * n + 2))

@@ -7,9 +7,10 @@ use native.Mathlib.Omega.{arith}
 use borrow.Author.Needs.{needs}
 use borrow.Author.Tests.{not-true, not-false, eqb-true, eqb-false}
 use Rattle.model.specs.Check.{nextOf, refusal, kindOf, onward}
+use Rattle.model.proofs.Passing.{next-range}
 use Rattle.checker.specs.Source.{content}
 use Rattle.progress.specs.Steps.{progressOf, refusalOf}
-use Rattle.checker.proofs.Turns.{Going, Facing, Turn, next-true, begins, ends, breaks, goes-on, stops}
+use Rattle.checker.proofs.Turns.{CheckAfter, Facing, Turn, check-begins, check-ends, check-breaks, check-goes-on, check-refuses}
 use Rattle.checker.proofs.follow.Statement.{statement}
 use Rattle.checker.proofs.follow.Tie as tie
 
@@ -20,7 +21,7 @@ abbrev μ-loop2 : tie.MeasureT-loop2
 μ-loop2 words bytes filed h records g₀ k₀ next₀ g k next = records - next
 
 abbrev Inv-loop : tie.InvT-loop
-Inv-loop words bytes filed h records g₀ k₀ g k = Going h (content filed words bytes) g k
+Inv-loop words bytes filed h records g₀ k₀ g k = CheckAfter h (content filed words bytes) g k
 
 abbrev μ-loop : tie.MeasureT-loop
 μ-loop words bytes filed h records g₀ k₀ g k = records - k
@@ -43,7 +44,7 @@ begun-requires : tie.Need-begun-requires Inv-loop2 μ-loop2 Inv-loop μ-loop
 begun-requires c κs = search needs
 
 loop-holds : tie.Need-loop-holds Inv-loop2 μ-loop2 Inv-loop μ-loop
-loop-holds c = begins _ _ (c .begun .result) (c .begun .ensures) (omega arith)
+loop-holds c = check-begins _ _ (c .begun .result) (c .begun .ensures) (omega arith)
 
 record-at-requires : tie.Need-record-at-requires Inv-loop2 μ-loop2 Inv-loop μ-loop
 record-at-requires c κs = omega arith
@@ -62,7 +63,7 @@ next c = c .wide .ensures ∙ ap (λ r. r .next) (c .before .record-at .ensures)
 returns : tie.Need-returns Inv-loop2 μ-loop2 Inv-loop μ-loop
 returns c =
     let l = c .before .before .before .before .loop in
-    c .at-end .ensures ∙ ends _ _ (l .g) (l .k) (l .inv) (sym (next (c .before .before)) ∙ c .before .if1 .taken)
+    c .at-end .ensures ∙ check-ends _ _ (l .g) (l .k) (l .inv) (sym (next (c .before .before)) ∙ c .before .if1 .taken)
 
 may-follow-requires : tie.Need-may-follow-requires Inv-loop2 μ-loop2 Inv-loop μ-loop
 may-follow-requires c κs = search needs
@@ -70,13 +71,13 @@ may-follow-requires c κs = search needs
 returns-2 : tie.Need-returns-2 Inv-loop2 μ-loop2 Inv-loop μ-loop
 returns-2 c =
     let l = c .before .before .before .before .before .loop in
-    breaks _ _ (l .g) (l .k) (l .inv) _ _ (next (c .before .before .before)) (omega arith) (c .before .before .if1 .left)
+    check-breaks _ _ (l .g) (l .k) (l .inv) _ _ (next (c .before .before .before)) (omega arith) (c .before .before .if1 .left)
     (sym (c .before .may-follow .ensures) ∙ not-true _ (c .if2 .taken))
 
 loop2-holds : tie.Need-loop2-holds Inv-loop2 μ-loop2 Inv-loop μ-loop
 loop2-holds c =
     let w = c .before .before .before in
-    let range = next-true _ _ _ (sym (c .before .may-follow .ensures) ∙ not-false _ (c .if2 .left)) in
+    let range = next-range _ _ _ (sym (c .before .may-follow .ensures) ∙ not-false _ (c .if2 .left)) in
     (omega arith, range .1, record { here = w .before .before .loop .inv; is = next w; up = range .0; low = omega arith })
 
 record-at-requires-2 : tie.Need-record-at-requires-2 Inv-loop2 μ-loop2 Inv-loop μ-loop
@@ -114,18 +115,18 @@ returns-3 : tie.Need-returns-3 Inv-loop2 μ-loop2 Inv-loop μ-loop
 returns-3 c =
     let read = c .before .before .before in
     let wrong = sym (c .before .before .is-right .ensures) ∙ not-true _ (c .before .if3 .taken) in
-    ap (λ m. refusal m (read .before .loop2 .next)) (c .judge .ensures) ∙ stops _ _ _ _ _ _ (turn read) (eqb-false (refusal-now read) 0 wrong)
+    ap (λ m. refusal m (read .before .loop2 .next)) (c .judge .ensures) ∙ check-refuses _ _ _ _ _ _ (turn read) (eqb-false (refusal-now read) 0 wrong)
 
 onward-requires : tie.Need-onward-requires Inv-loop2 μ-loop2 Inv-loop μ-loop
 onward-requires c κs = omega arith
 
 -- after that record
 arrived : (o : tie.After-onward Inv-loop2 μ-loop2 Inv-loop μ-loop) → let start = entry (reading o) in
-    Going (start .args .h) (program start) (o .onward .result) (reading o .before .loop2 .next)
+    CheckAfter (start .args .h) (program start) (o .onward .result) (reading o .before .loop2 .next)
 arrived o =
     let read = reading o in
     let right = sym (o .before .before .is-right .ensures) ∙ not-false _ (o .before .if3 .left) in
-    goes-on _ _ _ _ _ _ (turn read) (eqb-true (refusal-now read) 0 right) (o .onward .result)
+    check-goes-on _ _ _ _ _ _ (turn read) (eqb-true (refusal-now read) 0 right) (o .onward .result)
     (o .onward .ensures ∙ ap (λ r. onward (kindOf (r .kind)) (progressOf (read .before .loop2 .g))) (read .record-at2 .ensures))
 
 nearer : (records k₀ k next : ℕ) → k₀ ≤ k → k < next → next < records → records - next < records - k₀
