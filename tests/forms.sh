@@ -1,6 +1,6 @@
 #!/usr/bin/env bash
-# The eight forms of docs/SCOPE.md, "Each place and its form", looked for in the source: a line for each, and status 1 where one is gone.
-# Looked at are a file's tokens without comments and contracts, cut to the function or type that has the form.
+# The eight forms of docs/SCOPE.md, "Each place and its form", looked for in the source where docs/DECISIONS.md says they stand: a line for
+# each, and status 1 where one is gone. Looked at are a file's tokens without comments and contracts, cut to the function or type that has the form.
 set -euo pipefail
 cd "$(dirname "$0")/.."
 export LC_ALL=C
@@ -61,7 +61,7 @@ block() {
     }'
 }
 
-# found: of a function's tokens, whether a loop inside a loop is left by a break with a value or a label, under an `if` that asks the work numbers
+# found: says so if, in the tokens read, a loop inside a loop is left by a break with a value or a label, under a test of the work numbers
 found() {
     awk '
     {
@@ -74,12 +74,12 @@ found() {
                 condition[depth] = asked
                 kind = ""
             } else if ($k == "}") depth--
-            else if (kind == "if") asked = asked " " $k " "
+            else if (kind == "if" || kind == "match") asked = asked " " $k " "
             else if ($k == "break" && $(k + 1) !~ /^[;},]$/) {
                 loops = guarded = 0
                 for (d = depth; d > 0; d--) {
                     if (opener[d] ~ /^(while|for|loop)$/) loops++
-                    if (!loops && opener[d] == "if" && condition[d] ~ / work /) guarded = 1
+                    if (!loops && opener[d] ~ /^(if|match)$/ && condition[d] ~ / work /) guarded = 1
                 }
                 if (loops > 1 && guarded) print "found"
             }
