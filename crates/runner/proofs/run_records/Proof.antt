@@ -11,7 +11,7 @@ use Rattle.runner.specs.declared.Outcome.{Outcome}
 use Rattle.runner.specs.declared.Outcome.the-variants.{Solved, Stopped, Refused}
 use Rattle.runner.specs.Outcome.{replyOf}
 use Rattle.runner.proofs.Outcome.{the-type}
-use Rattle.runner.proofs.Outcomes.{Solves, leaves-solved, leaves-cleared}
+use Rattle.runner.proofs.Outcomes.{SolvedReply, leaves-solved, leaves-cleared}
 use Rattle.runner.proofs.run_records.Statement.{statement}
 use Rattle.runner.proofs.run_records.Tie as tie
 
@@ -30,12 +30,12 @@ abbrev cleared : tie.After-slice-known9 → tie.After-clear
 cleared c = c .before .before .before .before .before .before .before .before .before .before
 
 -- the tag of a solution, and of the others
-solves-told : (r : Outcome) → tagOf the-type r ≡ 0 → Solves (replyOf r)
+solves-told : (r : Outcome) → tagOf the-type r ≡ 0 → SolvedReply (replyOf r)
 solves-told (Solved p q) e = tt
 solves-told (Stopped n k t m) e = omega arith
 solves-told (Refused n d) e = omega arith
 
-solves-not : (r : Outcome) → (tagOf the-type r ≡ 1) ⊎ (tagOf the-type r ≡ 2) → Solves (replyOf r) → ⊥
+solves-not : (r : Outcome) → (tagOf the-type r ≡ 1) ⊎ (tagOf the-type r ≡ 2) → SolvedReply (replyOf r) → ⊥
 solves-not (Solved p q) e is = ⊎-elim (λ one. omega arith) (λ two. omega arith) e
 solves-not (Stopped n k t m) e is = is
 solves-not (Refused n d) e is = is
