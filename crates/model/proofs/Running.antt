@@ -47,8 +47,9 @@ module _ (A B : List Float) (W : List ℕ) where
       by (going z′) = refl
       by (stop n) = refl
 
+module _ {A B : List Float} {W : List ℕ} where
   -- before the first record
-  pub run-begins : Passed W → RunAfter (fresh (word W 0)) 0
+  pub run-begins : Passed W → RunAfter A B W (fresh (word W 0)) 0
   run-begins p = record {
     target = idle;
     room = tt;
@@ -57,7 +58,7 @@ module _ (A B : List Float) (W : List ℕ) where
     made = omega arith;
   }
 
-  module _ (z : State) (k : ℕ) (after : RunAfter z k) where
+  module _ {z : State} {k : ℕ} (after : RunAfter A B W z k) where
     -- what the check says, once the rest of the chain is known
     checked-as : {c : Chain} → chainFrom W k ≡ c → checkLinks (word W 0) (word W 1) (word W 2) (progressIn (after .target) z) (c .links) (c .end) ≡ fine
     checked-as e = subst (λ c. checkLinks (word W 0) (word W 1) (word W 2) (progressIn (after .target) z) (c .links) (c .end) ≡ fine) e (after .checks)
@@ -81,7 +82,7 @@ module _ (A B : List Float) (W : List ℕ) where
         fits true e checks = next-range k (nextOf W k) (length W / 4) e
         fits false e checks = absurd (refused-fine 9 k (checks e))
 
-    pub run-next : (nextOf W k ≡ 0 → ⊥) → let n = nextOf W k in RunBefore z n (kindOf (word W (4 * n))) (word W (4 * n + 1)) (word W (4 * n + 2))
+    pub run-next : (nextOf W k ≡ 0 → ⊥) → let n = nextOf W k in RunBefore A B W z n (kindOf (word W (4 * n))) (word W (4 * n + 1)) (word W (4 * n + 2))
     run-next some =
         let fits = next-fits some in
         let is = chain-goes W k (fits .0) (fits .1) in
@@ -92,13 +93,13 @@ module _ (A B : List Float) (W : List ℕ) where
           order = passed .eleven;
           turn = passed .twelve;
           checks = passed .later;
-          leads = after .leads ∙ ap (λ c. follow A B z (c .links)) is ∙ follow-link z (nextOf W k) (recordAt W (nextOf W k));
+          leads = after .leads ∙ ap (λ c. follow A B z (c .links)) is ∙ follow-link A B W z (nextOf W k) (recordAt W (nextOf W k));
           made = omega (arith, after .made);
         }
 
-  module _ (z : State) (k : ℕ) (t : Kind) (p q : ℕ) (before : RunBefore z k t p q) where
+  module _ {z : State} {k : ℕ} {t : Kind} {p q : ℕ} (before : RunBefore A B W z k t p q) where
     -- a step leads on, or ends the run
-    pub run-goes-on : (z′ : State) → going z′ ≡ step A B z t p q → RunAfter z′ k
+    pub run-goes-on : (z′ : State) → going z′ ≡ step A B z t p q → RunAfter A B W z′ k
     run-goes-on z′ e =
         let steps = after-step A B (word W 0) (word W 1) (word W 2) z p q (before .target) t (before .order) (before .turn) (before .room) in
         let after = subst (AfterStep (word W 0) (word W 2) (before .target) z t) (sym e) steps in

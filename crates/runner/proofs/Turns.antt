@@ -55,30 +55,31 @@ module _ (W : List ℕ) (A B : List Float) where
     pub is : nextOf W last ≡ next
     pub ran : LastRan c y x z last
 
-  fresh-state : (c y x : List Float) → stateOf unopened c y x ≡ Run.fresh (length x)
-  fresh-state c y x =
-      let all : length x - 0 ≡ length x = omega arith in
-      rw (all, drop-length x)
+fresh-state : (c y x : List Float) → stateOf unopened c y x ≡ Run.fresh (length x)
+fresh-state c y x =
+    let all : length x - 0 ≡ length x = omega arith in
+    rw (all, drop-length x)
 
+module _ {W : List ℕ} {A B : List Float} where
   -- nothing ran yet
-  pub starts : (c y x : List Float) → Fit W (length A) (length B) (length c) (length y) (length x) → LastRan c y x unopened 0
-  starts c y x fit =
+  pub starts : {c y x : List Float} → Fit W (length A) (length B) (length c) (length y) (length x) → LastRan W A B c y x unopened 0
+  starts {c} {y} {x} fit =
       let passed = fine-passed W (fit .checked) in
       record {
         fit = fit;
         passed = passed;
         sound = record { named = refl; in-c = omega arith; in-y = omega arith; in-x = omega arith };
-        after = subst (λ z. RunAfter A B W z 0) (sym (fresh-state c y x ∙ ap Run.fresh (fit .in-x))) (run-begins A B W passed);
+        after = subst (λ z. RunAfter A B W z 0) (sym (fresh-state c y x ∙ ap Run.fresh (fit .in-x))) (run-begins passed);
       }
 
-  module _ (c y x : List Float) (z : State) where
+  module _ {c y x : List Float} {z : State} where
     -- at the end of the chain everything is closed
-    pub ended : NextRuns c y x z 0 → RunEnds W A B c y x (solves (z .products) (z .quotients))
+    pub ended : NextRuns W A B c y x z 0 → RunEnds W A B c y x (solves (z .products) (z .quotients))
     unfolding reply stands complete
     ended b =
         let fit = b .ran .fit in
         let counts = counted z c y x (b .ran .sound) in
-        let end = run-ends A B W (stateOf z c y x) (b .last) (b .ran .after) (b .is) in
+        let end = run-ends (b .ran .after) (b .is) in
         let in-c = both (eqb (length (take (z .c) c)) (word W 2)) _ (both (isIdle (b .ran .after .target)) _ (end .1) .1) in
         let in-y = both (eqb (length (take (z .y) y)) (word W 0)) (eqb (length (drop (length x - z .x) x)) (word W 0)) (in-c .1) in
         let all-c : length c ≤ z .c = omega (arith, eqb-true (length (take (z .c) c)) (word W 2) (in-c .0)) in
@@ -86,18 +87,18 @@ module _ (W : List ℕ) (A B : List Float) where
         let none-x : length x - z .x ≡ 0 = omega (arith, eqb-true (length (drop (length x - z .x) x)) (word W 0) (in-y .1)) in
         rw (end .0) (refl, (sym (take-all (z .c) c all-c), (sym (take-all (z .y) y all-y), rw none-x refl)))
 
-    module _ (k : ℕ) (b : NextRuns c y x z k) (some : k ≡ 0 → ⊥) where
+    module _ {k : ℕ} (b : NextRuns W A B c y x z k) (some : k ≡ 0 → ⊥) where
       follows-some : nextOf W (b .last) ≡ 0 → ⊥
       follows-some e = some (sym (b .is) ∙ e)
 
       -- the next record stands within the words
       pub fits : k < length W / 4
-      fits = subst (λ n. n < length W / 4) (b .is) (next-fits A B W (stateOf z c y x) (b .last) (b .ran .after) follows-some .1)
+      fits = subst (λ n. n < length W / 4) (b .is) (next-fits (b .ran .after) follows-some .1)
 
       before : RunBefore A B W (stateOf z c y x) k (kindOf (word W (4 * k))) (word W (4 * k + 1)) (word W (4 * k + 2))
       before =
           subst (λ n. RunBefore A B W (stateOf z c y x) n (kindOf (word W (4 * n))) (word W (4 * n + 1)) (word W (4 * n + 2))) (b .is)
-          (run-next A B W (stateOf z c y x) (b .last) (b .ran .after) follows-some)
+          (run-next (b .ran .after) follows-some)
 
       -- and its step has all that it relies on
       pub ready : Ready (length A) (length B) (length c) (length y) (length x) z (kindOf (word W (4 * k))) (word W (4 * k + 1)) (word W (4 * k + 2))
@@ -113,12 +114,12 @@ module _ (W : List ℕ) (A B : List Float) where
           }
 
       -- r is what the step at record k gave, with the tables c′, y′ and x′
-      module _ (c′ y′ x′ : List Float) (r : Stepped) (same : SameLengths c y x c′ y′ x′)
+      module _ {c′ y′ x′ : List Float} {r : Stepped} (same : SameLengths c y x c′ y′ x′)
           (is : steppedOf r c′ y′ x′ ≡ Run.step A B (stateOf z c y x) (kindOf (word W (4 * k))) (word W (4 * k + 1)) (word W (4 * k + 2)))
           (sound : SoundStep (length c) (length y) (length x) r) where
         -- the run goes on
-        pub turned : (z′ : State) → r ≡ On z′ → LastRan c′ y′ x′ z′ k
-        turned z′ e =
+        pub turned : {z′ : State} → r ≡ On z′ → LastRan W A B c′ y′ x′ z′ k
+        turned {z′} e =
             let fit = b .ran .fit in
             record {
               fit = record {
@@ -131,23 +132,23 @@ module _ (W : List ℕ) (A B : List Float) where
               };
               passed = b .ran .passed;
               sound = rw (same .of-c, same .of-y, same .of-x) (subst (SoundStep (length c) (length y) (length x)) e sound);
-              after = run-goes-on A B W (stateOf z c y x) k _ _ _ before (stateOf z′ c′ y′ x′) (ap (λ r. steppedOf r c′ y′ x′) (sym e) ∙ is);
+              after = run-goes-on before (stateOf z′ c′ y′ x′) (ap (λ r. steppedOf r c′ y′ x′) (sym e) ∙ is);
             }
 
         -- or stops there
-        pub stopped-at : (number : ℕ) → r ≡ Stop number → RunEnds W A B c′ y′ x′ (stops number k (z .table) (z .target))
+        pub stopped-at : {number : ℕ} → r ≡ Stop number → RunEnds W A B c′ y′ x′ (stops number k (z .table) (z .target))
         unfolding reply stands
-        stopped-at number e =
-            rw (run-stops A B W (stateOf z c y x) k _ _ _ before number (ap (λ r. steppedOf r c′ y′ x′) (sym e) ∙ is))
+        stopped-at {number} e =
+            rw (run-stops before number (ap (λ r. steppedOf r c′ y′ x′) (sym e) ∙ is))
             (ap (λ t. stops number k t (z .target)) (sym (b .ran .sound .named)), (refl, (refl, refl)))
 
   -- the next record, if there is one, is a later one
-  pub gets-on : (c y x : List Float) (z : State) (k₀ k next : ℕ) → (k₀ ≡ 0 → ⊥) → k₀ ≤ k → k < length W / 4 → LastRan c y x z k → nextOf W k ≡ next
+  pub gets-on : {c y x : List Float} {z : State} {k₀ k next : ℕ} → (k₀ ≡ 0 → ⊥) → k₀ ≤ k → k < length W / 4 → LastRan W A B c y x z k → nextOf W k ≡ next
       → left W next < left W k₀
-  gets-on c y x z k₀ k next some from low ran is = rw (ne-eqb k₀ 0 some) (by (eqb next 0) refl)
+  gets-on {k₀ = k₀} {next = next} some from low ran is = rw (ne-eqb k₀ 0 some) (by (eqb next 0) refl)
     where
       by : (b : Bool) → eqb next 0 ≡ b → cond b 0 (length W / 4 - next) < length W / 4 - k₀
       by true e = omega arith
       by false e =
-          let later = next-fits A B W (stateOf z c y x) k (ran .after) (λ none. eqb-false next 0 e (sym is ∙ none)) in
+          let later = next-fits (ran .after) (λ none. eqb-false next 0 e (sym is ∙ none)) in
           omega arith

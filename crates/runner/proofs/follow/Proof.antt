@@ -51,7 +51,7 @@ stopping c = c .before .before .before .before .before .before .before .before .
 bounds : (c : Turn) → let records = length (start c .args .words .now) / 4 in (c .loop2 .k < records) × (records ≤ 100000000)
 bounds c =
     let at = c .loop2 .inv .1 in
-    (fits _ _ _ _ _ _ _ _ (at .0) (at .1 .0), at .0 .ran .passed .few)
+    (fits (at .0) (at .1 .0), at .0 .ran .passed .few)
 
 -- C, Y and X after the step
 abbrev after-c : Stepped → List Float
@@ -79,7 +79,7 @@ ran-on : (c : tie.After-known-told Inv-loop2 μ-loop2 Inv-loop μ-loop) → let 
 ran-on c =
     let s = going c in
     let at = turn s .loop2 .inv .1 in
-    turned _ _ _ _ _ _ _ _ (at .0) (at .1 .0) _ _ _ (s .step .result) (same-step s) (s .step .ensures .0) (s .step .ensures .1) _ (c .before .after .given .1)
+    turned (at .0) (at .1 .0) (same-step s) (s .step .ensures .0) (s .step .ensures .1) (c .before .after .given .1)
 
 fresh-requires : tie.Need-fresh-requires Inv-loop2 μ-loop2 Inv-loop μ-loop
 fresh-requires c κs = search needs
@@ -98,7 +98,7 @@ loop-holds c =
         last = 0;
         is = sym (c .wide .ensures);
         ran = subst (λ z. LastRan (a .words .now) (a .a .now) (a .b .now) (a .c .now) (a .y .now) (a .x .now) z 0) (sym (c .before .before .fresh .ensures))
-            (starts _ _ _ _ _ _ (entry (c .before) .pre));
+            (starts (entry (c .before) .pre));
       },
     )
 
@@ -138,7 +138,7 @@ shared-slice-read-step-3 c = omega (arith, bounds (c .before .before .before))
 step-requires : tie.Need-step-requires Inv-loop2 μ-loop2 Inv-loop μ-loop
 step-requires c κs =
     let at = c .before .before .before .before .before .before .loop2 .inv .1 in
-    ready _ _ _ _ _ _ _ _ (at .0) (at .1 .0)
+    ready (at .0) (at .1 .0)
 
 enum-known-after : tie.Need-enum-known-after Inv-loop2 μ-loop2 Inv-loop μ-loop
 enum-known-after c = search needs
@@ -162,8 +162,7 @@ returns : tie.Need-returns Inv-loop2 μ-loop2 Inv-loop μ-loop
 returns c =
     let s = stopping c in
     let at = turn s .loop2 .inv .1 in
-    stopped-at _ _ _ _ _ _ _ _ (at .0) (at .1 .0) _ _ _ (s .step .result) (same-step s) (s .step .ensures .0) (s .step .ensures .1) _
-    (c .before .number .given .1)
+    stopped-at (at .0) (at .1 .0) (same-step s) (s .step .ensures .0) (s .step .ensures .1) (c .before .number .given .1)
 
 add-wide : tie.Need-add-wide Inv-loop2 μ-loop2 Inv-loop μ-loop
 add-wide c = omega (arith, bounds (turn (going c)))
@@ -180,7 +179,7 @@ wide-requires-2 c κs = search needs
 loop-less : tie.Need-loop-less Inv-loop2 μ-loop2 Inv-loop μ-loop
 loop-less c =
     let t = turn (going (c .before .before .before)) in
-    gets-on _ _ _ _ _ _ _ _ _ _ (t .before .loop-test .taken) (t .loop2 .inv .1 .1 .1) (bounds t .0) (ran-on (c .before .before .before))
+    gets-on (t .before .loop-test .taken) (t .loop2 .inv .1 .1 .1) (bounds t .0) (ran-on (c .before .before .before))
     (sym (c .before .wide2 .ensures))
 
 loop-again : tie.Need-loop-again Inv-loop2 μ-loop2 Inv-loop μ-loop
@@ -214,7 +213,7 @@ returns-2 : tie.Need-returns-2 Inv-loop2 μ-loop2 Inv-loop μ-loop
 returns-2 c =
     let a = entry (c .before .before .before) .args in
     let l = c .before .loop in
-    ended _ _ _ _ _ _ _ (subst (NextRuns (a .words .now) (a .a .now) (a .b .now) (l .c) (l .y) (l .x) (l .z)) (c .loop-test .left) (l .inv .1))
+    ended (subst (NextRuns (a .words .now) (a .a .now) (a .b .now) (l .c) (l .y) (l .x) (l .z)) (c .loop-test .left) (l .inv .1))
 
 pub follow-spec : {M : Type 1} → statement M
 follow-spec =
