@@ -1,43 +1,17 @@
 -- A plan marked in the work numbers, label by label; and that any work numbers mark some plan.
-use Prim.Native.Nat.{ℕ, zero, suc, _+_, _-_, _*_, _≤_, _<_}
+use Prim.Native.Nat.{ℕ, zero, suc, _-_, _*_, _≤_, _<_}
 use native.Mathlib.Decide.{ℕ-discrete, decLe}
 use native.Mathlib.Omega.{arith}
 use mathlib.Core.Path.{_≡_, refl, sym, ap, _∙_}
-use mathlib.Core.Bool.{Bool, true, false, cond, _||_}
+use mathlib.Core.Bool.{Bool, true, false, cond, or-true, or-false}
 use mathlib.Core.List.{List, [], _∷_, _++_, append-nil}
-use borrow.Author.Tests.{lt-ltb, eq-eqb, ne-eqb}
-use lib.Dec.{ltb, eqb}
+use borrow.Author.Tests.{eq-eqb, ne-eqb}
+use lib.Dec.{ltb}
 use lib.ListN.{length, length-set, getD, set, drop, replicate, length-replicate, getD-replicate, length-append, length-drop, List·getD-append}
 use lib.Seq.{getD-set-same, getD-set-other, drop-set-lt, drop-at}
 use Rattle.model.specs.Fill.{Plan, positionFrom, position}
+use Rattle.model.proofs.Plans.{planned-more}
 use Rattle.slots.specs.Marks.{Marks, Marked}
-
--- with one label more, that label is in the plan too
-planned-from : (p : ℕ) (L : Plan) (y k : ℕ) → ltb 0 (positionFrom (suc p) (L ++ (y ∷ [])) k) ≡ (ltb 0 (positionFrom (suc p) L k) || eqb y k)
-unfolding positionFrom
-planned-from p [] y k = step (eqb y k)
-  where
-    step : (b : Bool) → ltb 0 (cond b (suc p) 0) ≡ b
-    step true = lt-ltb 0 (suc p) (omega arith)
-    step false = refl
-planned-from p (x ∷ L) y k = step (eqb x k) (planned-from (suc p) L y k)
-  where
-    step : (b : Bool) → ltb 0 (positionFrom (suc (suc p)) (L ++ (y ∷ [])) k) ≡ (ltb 0 (positionFrom (suc (suc p)) L k) || eqb y k)
-        → ltb 0 (cond b (suc p) (positionFrom (suc (suc p)) (L ++ (y ∷ [])) k)) ≡ (ltb 0 (cond b (suc p) (positionFrom (suc (suc p)) L k)) || eqb y k)
-    step true e = rw (lt-ltb 0 (suc p) (omega arith))
-    step false e = e
-
-planned-more : (L : Plan) (y k : ℕ) → ltb 0 (position (L ++ (y ∷ [])) k) ≡ (ltb 0 (position L k) || eqb y k)
-unfolding position
-planned-more = planned-from 0
-
-or-true : (b : Bool) → (b || true) ≡ true
-or-true true = refl
-or-true false = refl
-
-or-false : (b : Bool) → (b || false) ≡ b
-or-false true = refl
-or-false false = refl
 
 -- ---- marking a plan
 

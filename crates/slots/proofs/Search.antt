@@ -1,10 +1,10 @@
 -- The search for a pair at a place: for h from where both lines can first be held, whether (i, h) and (h, j) have work numbers; and that they say what is held.
-use Prim.Native.Nat.{ℕ, suc, _+_, _-_, _*_, _≤_, _<_, min, max}
+use Prim.Native.Nat.{ℕ, suc, _+_, _-_, _≤_, _<_, min, max}
 use native.Mathlib.Decide.{decLe}
 use native.Mathlib.Nat.{mul-le-mul}
 use native.Mathlib.Omega.{arith}
 use mathlib.Core.Path.{_≡_, refl, sym, ap, ap₂, _∙_}
-use mathlib.Core.Bool.{Bool, true, false, cond, _&&_, _||_, and-false}
+use mathlib.Core.Bool.{Bool, true, false, cond, _&&_, _||_, and-false, or-true}
 use mathlib.Core.List.{List}
 use borrow.Author.Tests.{lt-ltb}
 use lib.Dec.{ltb}
@@ -33,10 +33,6 @@ pub record Searching (n : ℕ) (work : List ℕ) (m i j : ℕ) (planned : Bool) 
 pub pair-inside : {n m i j : ℕ} → Inside n i j → min i j ≡ m → (h : ℕ) → 1 ≤ h → h < m → Inside n i h × Inside n h j
 pair-inside inside batch h low high = (omega arith, omega arith)
 
-or-true : (b : Bool) → true ≡ (b || true)
-or-true true = refl
-or-true false = refl
-
 module _ {N : ℕ} {L : Plan} {m i j : ℕ} {walk : Walk} {work inRows inColumns : List ℕ} (at : Here N L m i j walk work inRows inColumns) {planned : Bool} where
   module _ {h low high : ℕ} (s : Searching N work m i j planned h low high) where
     module _ (before : h < m) where
@@ -56,7 +52,7 @@ module _ {N : ℕ} {L : Plan} {m i j : ℕ} {walk : Walk} {work inRows inColumns
       -- a pair is found, or none at h
       pub search-found : {b : Bool} → b ≡ (ltb 0 (getD work low 0) && ltb 0 (getD work high 0)) → b ≡ true
           → true ≡ (planned || some (pairAt N work i j) (m - 1))
-      search-found e t = rw (some-true (pairAt N work i j) (m - 1) h (s .from) (omega arith) (pair-here ∙ sym e ∙ t)) (or-true planned)
+      search-found e t = rw (some-true (pairAt N work i j) (m - 1) h (s .from) (omega arith) (pair-here ∙ sym e ∙ t)) (sym (or-true planned))
 
       pub search-onward : {b : Bool} (left : ℕ) → b ≡ (ltb 0 (getD work low 0) && ltb 0 (getD work high 0)) → b ≡ false → left ≡ N - h
           → Searching N work m i j planned (suc h) (low + (left + left)) (high + (left + left - 1))

@@ -113,8 +113,7 @@ fn first_missing(missing: u32, m: u32, slot: u32) -> u32
     if missing == 0 { m } else { missing }
 }
 
-// Batch m's column from the diagonal down or, across, its row right of the diagonal. A place is held if it is in the plan, or if some h below m
-// has (i, h) and (h, j) held: h rises from the first that can, and the search is left at the first that does.
+// Batch m's column from the diagonal down or, across, its row right of the diagonal, from the marks.
 fn fill_line(
     n: u32,
     work: &mut [u32],
@@ -138,6 +137,7 @@ fn fill_line(
         let mut h = search_from(rows, columns, i, j, m, planned);
         let mut low = index_of(n, i, h, h < m);
         let mut high = index_of(n, h, j, h < m);
+        // held(i, j) = planned, or held(i, h) and held(h, j) for some h < m; the first such h ends the search
         let held = loop {
             if m <= h {
                 break planned;
@@ -151,6 +151,7 @@ fn fill_line(
             h += 1;
         };
         walk = settle(work, rows, columns, i, j, held, walk);
+        // the places after it that can't be held keep their 0
         let empty = empty_run(n, work, rows, columns, m, across, t + 1, walk.done);
         walk.done += empty;
         t += empty + 1;

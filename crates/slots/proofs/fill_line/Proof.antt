@@ -12,11 +12,11 @@ use lib.Dec.{ltb}
 use lib.ListN.{length}
 use Rattle.model.specs.Fill.{Plan, held}
 use Rattle.model.proofs.Labels.{Inside}
-use Rattle.slots.specs.Batch.{firstOf, pairAt}
-use Rattle.slots.specs.Walked.{Sized, Reached}
+use Rattle.slots.specs.Batch.{firstOf}
+use Rattle.slots.specs.Walked.{Reached}
 use Rattle.slots.proofs.Here.{Here, bounds}
 use Rattle.slots.proofs.Search.{Searching, pair-inside, indices, start-low, search-begins, search-found, search-onward, search-ended, held-by-work}
-use Rattle.slots.proofs.Along.{Along, along-start, along-here, along-room, along-next, along-run, along-end, sized-again}
+use Rattle.slots.proofs.Along.{Along, along-start, along-here, along-room, along-next, along-run, along-end}
 use Rattle.slots.proofs.fill_line.Statement.{statement}
 use Rattle.slots.proofs.fill_line.Tie as tie
 

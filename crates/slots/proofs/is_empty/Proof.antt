@@ -1,5 +1,4 @@
 -- `slots::is_empty` makes its three tests.
-use native.Mathlib.Omega.{arith}
 use borrow.Author.Needs.{needs}
 use borrow.Author.Tests.{le-leb, lt-leb, eq-eqb, ne-eqb}
 use Rattle.slots.proofs.is_empty.Statement.{statement}
