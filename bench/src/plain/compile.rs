@@ -86,7 +86,7 @@ impl Walk {
     }
 }
 
-/// How many of the next places, of which the first has this index, are not in the plan and can have no pair in batch m.
+/// How many of the next places, with these marks and first held lines, are not in the plan and can have no pair in batch m.
 fn empties(first: &[usize], m: usize, marks: &[u32]) -> usize {
     first.iter().zip(marks).take_while(|&(&h, &mark)| mark == 0 && h >= m).count()
 }

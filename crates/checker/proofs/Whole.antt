@@ -10,7 +10,8 @@ use Rattle.model.specs.Check.{word, Verdict, refusal, check}
 use Rattle.model.specs.File.{wordsOf, checkFile}
 use Rattle.model.proofs.Passing.{both}
 use Rattle.progress.specs.declared.Head.{Head}
-use Rattle.checker.specs.Whole.{countFits, headFits, followed}
+use Rattle.model.proofs.Passing.{eight}
+use Rattle.checker.specs.Whole.{countFits, followed}
 
 pub count-true : (n : ℕ) → countFits n ≡ true → (0 < n) × ((n % 4 ≡ 0) × (n / 4 ≤ 100000000))
 count-true n e =
@@ -28,9 +29,9 @@ whole true true v = v
 abbrev pub headOf : List ℕ → Head
 headOf W = record { order = word W 0; coefficients = word W 1; slots = word W 2 }
 
-check-is : (W : List ℕ) → whole (countFits (length W)) (headFits (word W 0) (word W 1) (word W 2)) (followed (headOf W) W) ≡ check W
+check-is : (W : List ℕ) → whole (countFits (length W)) (eight (word W 0) (word W 1) (word W 2)) (followed (headOf W) W) ≡ check W
 unfolding check
-check-is W = step (countFits (length W)) (headFits (word W 0) (word W 1) (word W 2)) (followed (headOf W) W)
+check-is W = step (countFits (length W)) (eight (word W 0) (word W 1) (word W 2)) (followed (headOf W) W)
   where
     step : (counts heads : Bool) (v : Verdict)
         → whole counts heads v ≡ elim counts [ false ↦ refusal 7 0 | true ↦ elim heads [ false ↦ refusal 8 0 | true ↦ v ] ]
@@ -39,18 +40,18 @@ check-is W = step (countFits (length W)) (headFits (word W 0) (word W 1) (word W
     step true true v = refl
 
 pub refused-7 : (W : List ℕ) → countFits (length W) ≡ false → refusal 7 0 ≡ check W
-refused-7 W e = ap (λ b. whole b (headFits (word W 0) (word W 1) (word W 2)) (followed (headOf W) W)) (sym e) ∙ check-is W
+refused-7 W e = ap (λ b. whole b (eight (word W 0) (word W 1) (word W 2)) (followed (headOf W) W)) (sym e) ∙ check-is W
 
 module _ (h : Head) (W : List ℕ) (at : h ≡ headOf W) (fits : countFits (length W) ≡ true) where
-  checked : {heads : Bool} → headFits (h .order) (h .coefficients) (h .slots) ≡ heads → whole true heads (followed h W) ≡ check W
+  checked : {heads : Bool} → eight (h .order) (h .coefficients) (h .slots) ≡ heads → whole true heads (followed h W) ≡ check W
   checked e =
       ap (λ b. whole true b (followed h W)) (sym e)
-      ∙ ap₂ (λ b h. whole b (headFits (h .order) (h .coefficients) (h .slots)) (followed h W)) (sym fits) at ∙ check-is W
+      ∙ ap₂ (λ b h. whole b (eight (h .order) (h .coefficients) (h .slots)) (followed h W)) (sym fits) at ∙ check-is W
 
-  pub refused-8 : headFits (h .order) (h .coefficients) (h .slots) ≡ false → refusal 8 0 ≡ check W
+  pub refused-8 : eight (h .order) (h .coefficients) (h .slots) ≡ false → refusal 8 0 ≡ check W
   refused-8 = checked
 
-  pub chain-checked : headFits (h .order) (h .coefficients) (h .slots) ≡ true → followed h W ≡ check W
+  pub chain-checked : eight (h .order) (h .coefficients) (h .slots) ≡ true → followed h W ≡ check W
   chain-checked = checked
 
 module _ (bs : List ℕ) where

@@ -1,9 +1,8 @@
--- Checks 7 and 8, before the chain, and the chain. Definitions only.
-use Prim.Native.Nat.{ℕ, _*_, _/_, _%_}
+-- Check 7, before the chain, and the chain. Definitions only.
+use Prim.Native.Nat.{ℕ, _/_, _%_}
 use mathlib.Core.Bool.{Bool, _&&_}
 use mathlib.Core.List.{List}
 use lib.Dec.{leb, ltb, eqb}
-use Rattle.model.specs.Label.{isOrder}
 use Rattle.model.specs.Check as Check
 use Rattle.model.specs.Check.{checkLinks, chain, Verdict}
 use Rattle.progress.specs.declared.Head.{Head}
@@ -11,10 +10,6 @@ use Rattle.progress.specs.declared.Head.{Head}
 -- 7: a count of words that a program can have
 abbrev pub countFits : ℕ → Bool
 countFits n = ltb 0 n && (eqb (n % 4) 0 && leb (n / 4) 100000000)
-
--- 8: N, n and s
-abbrev pub headFits : ℕ → ℕ → ℕ → Bool
-headFits N n s = isOrder N && (leb n (N * N) && (leb N s && leb s (N * N)))
 
 -- the records along the chain, and its end
 abbrev pub followed : Head → List ℕ → Verdict

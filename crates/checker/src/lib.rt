@@ -14,7 +14,8 @@ ghost use Rattle.model.specs.File.{wordsOf, checkFile};
 ghost use Rattle.progress.specs.Steps.{progressOf};
 ghost use Rattle.checker.specs.Checked.{verdictOf};
 ghost use Rattle.checker.specs.Source.{content, recordOf};
-ghost use Rattle.checker.specs.Whole.{countFits, headFits, followed};
+ghost use Rattle.model.proofs.Passing.{eight};
+ghost use Rattle.checker.specs.Whole.{countFits, followed};
 
 // What a check answers: nothing wrong, or a refusal's number and its detail.
 pub enum Checked {
@@ -91,7 +92,7 @@ fn head_of(r: Record) -> Head
 
 // 8: N in 1..600, n at most N², s in N..N².
 fn head_fits(h: Head) -> bool
-    ensures { λ r. ⌜ r ≡ headFits (h .order) (h .coefficients) (h .slots) ⌝ }
+    ensures { λ r. ⌜ r ≡ eight (h .order) (h .coefficients) (h .slots) ⌝ }
 {
     let n = h.order;
     within(n, 600) && (h.coefficients <= n * n && (n <= h.slots && h.slots <= n * n))

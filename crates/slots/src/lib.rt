@@ -7,7 +7,7 @@ use lines::row_of;
 use numbers::larger;
 use numbers::wide;
 ghost use mathlib.Core.Path.{_≡_};
-ghost use mathlib.Core.Bool.{true, false, cond, _&&_};
+ghost use mathlib.Core.Bool.{true, cond, _&&_};
 ghost use mathlib.Core.List.{_++_};
 ghost use Prim.Native.Nat.{suc, _+_, _-_, _*_, _≤_, _<_, min, max};
 ghost use lib.Dec.{ltb, eqb};

@@ -128,9 +128,14 @@ larger-requires : tie.Need-larger-requires Inv-loop μ-loop
 larger-requires c κs = search needs
 
 -- the slots that a batch's column gave below the pivot, and its row
-given : (c : Paired) (L : Plan) → let r = right c in let t = turn (down r) in Marking t L →
+abbrev Given : Paired → Plan → Type 0
+Given c L =
+    let r = right c in
+    let t = turn (down r) in
     (down r .fill-line .result .used ≡ c .larger .result + downOf (entry t .args .n) L (t .before .loop .m))
     × (r .fill-line2 .result .used ≡ down r .fill-line .result .used + rightOf (entry t .args .n) L (t .before .loop .m))
+
+given : (c : Paired) (L : Plan) → Marking (turn (down (right c))) L → Given c L
 given c L marked =
     let r = right c in
     let d = down r in
@@ -139,9 +144,7 @@ given c L marked =
     (down-given (t .before .loop .inv L marked) (in-order t) (column d L marked) _ from, row r L marked .given)
 
 -- those of the plan that is there
-some-given : (c : Paired) → let r = right c in let t = turn (down r) in let some = plan (entry t) in
-    (down r .fill-line .result .used ≡ c .larger .result + downOf (entry t .args .n) (some .plan) (t .before .loop .m))
-    × (r .fill-line2 .result .used ≡ down r .fill-line .result .used + rightOf (entry t .args .n) (some .plan) (t .before .loop .m))
+some-given : (c : Paired) → Given c (plan (entry (turn (down (right c)))) .plan)
 some-given c = let some = plan (entry (turn (down (right c)))) in given c (some .plan) (some .marked)
 
 sub-down : tie.Need-sub-down Inv-loop μ-loop

@@ -78,14 +78,18 @@ Entered c L =
     Reached (a .n) L (a .across) (a .m) (firstOf (a .across) (a .m)) (a .walk) (a .work .now) (a .rows .now) (a .columns .now)
 
 -- the place of a turn, for such a plan and for the one that is there
-at-place : (c : Turn) (L : Plan) → Entered c L → let a = entry c .args in let l = head c .loop in
+abbrev AtPlace : Turn → Plan → Type 0
+AtPlace c L =
+    let a = entry c .args in
+    let l = head c .loop in
     Here (a .n) L (a .m) (c .before .row-of .result) (c .column-of .result) (l .walk) (l .work) (l .rows) (l .columns)
+
+at-place : (c : Turn) (L : Plan) → Entered c L → AtPlace c L
 at-place c L r =
     let p = entry c .pre .0 in
     along-here (p .0) (p .1) (p .2) _ _ (head c .loop .inv L r) (c .before .before .loop-test .taken) (c .before .row-of .ensures) (c .column-of .ensures)
 
-here : (c : Turn) → let a = entry c .args in let l = head c .loop in
-    Here (a .n) (entry c .pre .1 .plan) (a .m) (c .before .row-of .result) (c .column-of .result) (l .walk) (l .work) (l .rows) (l .columns)
+here : (c : Turn) → AtPlace c (entry c .pre .1 .plan)
 here c = at-place c _ (entry c .pre .1 .reached)
 
 first-of-requires : tie.Need-first-of-requires Inv-loop2 μ-loop2 Inv-loop μ-loop
@@ -188,16 +192,21 @@ settle-requires c κs =
     ((omega arith, b .1, omega arith), (b .3, b .4))
 
 -- the place is done
-after : (c : Settled) (L : Plan) → let t = turn (searched c .before) in Entered t L → let a = entry t .args in let s = c .settle in
+abbrev Done : Settled → Plan → Type 0
+Done c L =
+    let t = turn (searched c .before) in
+    let a = entry t .args in
+    let s = c .settle in
     Along (a .n) L (a .work .now) (a .across) (a .m) (suc (head t .loop .t)) (s .result) (s .last .0) (s .last .1 .0) (s .last .1 .1 .0)
+
+after : (c : Settled) (L : Plan) → Entered (turn (searched c .before)) L → Done c L
 after c L r =
     let t = turn (searched c .before) in
     let p = entry t .pre .0 in
     along-next (p .0) (p .1) (p .2) (head t .loop .inv L r) (t .before .before .loop-test .taken) (t .before .row-of .ensures) (t .column-of .ensures)
     (known (searched c) L r) (c .settle .ensures)
 
-done : (c : Settled) → let t = turn (searched c .before) in let a = entry t .args in let s = c .settle in
-    Along (a .n) (entry t .pre .1 .plan) (a .work .now) (a .across) (a .m) (suc (head t .loop .t)) (s .result) (s .last .0) (s .last .1 .0) (s .last .1 .1 .0)
+done : (c : Settled) → Done c (entry (turn (searched c .before)) .pre .1 .plan)
 done c = after c _ (entry (turn (searched c .before)) .pre .1 .reached)
 
 add-empty-run : tie.Need-add-empty-run Inv-loop2 μ-loop2 Inv-loop μ-loop
