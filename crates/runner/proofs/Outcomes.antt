@@ -72,7 +72,6 @@ module _ (W : List ℕ) (A B c y x : List Float) where
   Run = ran W A B (length c) (length y) (length x)
 
   run-picked : {fit : Bool} → check W ≡ fine → Fits ≡ fit → Run ≡ picked fit (position A B) (done W A B)
-  unfolding lengthsRight
   run-picked e f =
       ran-fine W A B (length c) (length y) (length x) e ∙ gated-picked Fits (notFinite 1 A) (notFinite 1 B) (done W A B)
       ∙ ap (λ fit. picked fit (position A B) (done W A B)) f
@@ -99,6 +98,7 @@ module _ (W : List ℕ) (A B c y x : List Float) where
 
   -- and then the lengths are those that the records rely on
   pub fit-true : check W ≡ fine → Fits ≡ true → Fit W (length A) (length B) (length c) (length y) (length x)
+  unfolding lengthsRight
   fit-true e f =
       let a = both (eqb (length A) (word W 1)) _ f in
       let b = both (eqb (length B) (word W 0)) _ (a .1) in

@@ -1,13 +1,14 @@
 -- What the records of a checked program leave, and the lengths that 14 asks for. Definitions only.
 use Prim.Native.Nat.{ℕ}
 use mathlib.Core.Path.{_≡_}
-use mathlib.Core.Bool.{Bool, cond, _&&_}
+use mathlib.Core.Bool.{Bool, cond}
 use mathlib.Core.List.{List}
 use lib.Dec.{eqb}
 use lib.Ieee.{Float}
 use Rattle.model.specs.Formula.{Table, C, Y, X}
 use Rattle.model.specs.Check.{word, chain, check, fine}
 use Rattle.model.specs.Run.{Outcome, solution, stopped, refusedBy, follow, fresh, notFinite}
+use Rattle.model.proofs.Runs.{lengthsRight}
 
 -- the run of all records
 abbrev pub done : List ℕ → List Float → List Float → Outcome
@@ -21,9 +22,9 @@ stands (solution t p q) X vs = t .x
 stands (stopped r k u n) t vs = vs
 stands (refusedBy r d) t vs = vs
 
--- 14's test of the lengths of A, B, C, Y and X
+-- 14's test of the lengths of A, B, C, Y and X, by record 0
 abbrev pub lengthsFit : List ℕ → ℕ → ℕ → ℕ → ℕ → ℕ → Bool
-lengthsFit W la lb lc ly lx = eqb la (word W 1) && (eqb lb (word W 0) && (eqb lc (word W 2) && (eqb ly (word W 0) && eqb lx (word W 0))))
+lengthsFit W = lengthsRight (word W 0) (word W 1) (word W 2)
 
 -- 15's detail: the position of the first value that is not finite, in A, then in B; 0 if there is none
 abbrev pub position : List Float → List Float → ℕ

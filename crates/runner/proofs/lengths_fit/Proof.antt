@@ -1,6 +1,7 @@
 -- `runner::lengths_fit` is 14.
 use borrow.Author.Needs.{needs}
 use borrow.Author.Tests.{eq-eqb, ne-eqb}
+use Rattle.model.proofs.Runs.{lengthsRight}
 use Rattle.runner.proofs.lengths_fit.Statement.{statement}
 use Rattle.runner.proofs.lengths_fit.Tie as tie
 
@@ -30,6 +31,7 @@ abbrev coefficients : tie.After-wide3 → tie.After-wide2
 coefficients c = c .before .before .before .before
 
 returns : tie.Need-returns
+unfolding lengthsRight
 returns c =
     let s = c .before .before in
     rw (
@@ -43,6 +45,7 @@ returns c =
     )
 
 returns-2 : tie.Need-returns-2
+unfolding lengthsRight
 returns-2 c =
     let s = c .before .before in
     rw (
@@ -56,6 +59,7 @@ returns-2 c =
     )
 
 returns-3 : tie.Need-returns-3
+unfolding lengthsRight
 returns-3 c =
     let s = c .before in
     rw (
@@ -68,6 +72,7 @@ returns-3 c =
     )
 
 returns-4 : tie.Need-returns-4
+unfolding lengthsRight
 returns-4 c =
     rw (
       ← c .before .before .before .before .wide .ensures,
@@ -77,6 +82,7 @@ returns-4 c =
     )
 
 returns-5 : tie.Need-returns-5
+unfolding lengthsRight
 returns-5 c = rw (← c .before .before .before .wide .ensures, ← c .before .wide2 .ensures, ne-eqb _ _ (c .if1 .left))
 
 pub lengths-fit-spec : {M : Type 1} → statement M
