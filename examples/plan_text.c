@@ -51,6 +51,14 @@ static int read_whole(const struct reading *reading, const char *word, uint32_t 
     return 1;
 }
 
+static int read_number(const struct reading *reading, const char *word, double *number) {
+    char *end;
+    if (word == NULL)
+        return fault(reading, reading->line, "a number is missing");
+    *number = strtod(word, &end);
+    return *end == 0 || fault(reading, reading->line, "not a number: %s", word);
+}
+
 static int line_ends(const struct reading *reading, char *rest) {
     const char *word = next_word(&rest);
     return word == NULL || fault(reading, reading->line, "the line should end before: %s", word);
@@ -166,6 +174,14 @@ static int read_right(struct reading *reading, char *rest) {
     return line_ends(reading, rest);
 }
 
+static int read_limit(struct reading *reading, char *rest) {
+    struct value_set *set = last_set(reading->text);
+    if (set == NULL)
+        return fault(reading, reading->line, "a limit belongs to values, and there are none yet");
+    begin_list(reading, NULL, 0);
+    return read_number(reading, next_word(&rest), &set->limit) && line_ends(reading, rest);
+}
+
 static int read_expected(struct reading *reading, char *rest) {
     struct value_set *set = last_set(reading->text);
     if (set == NULL)
@@ -176,13 +192,12 @@ static int read_expected(struct reading *reading, char *rest) {
 
 static int read_numbers(struct reading *reading, const char *word, char *rest) {
     struct numbers *list = reading->list;
-    char *end;
     double number;
+    if (list == NULL)
+        return fault(reading, reading->line, "not order, place, labels, values, right, limit or expect: %s", word);
     do {
-        number = strtod(word, &end);
-        if (list == NULL || *end != 0)
-            return fault(reading, reading->line, "%s: %s",
-                         list == NULL ? "not order, place, labels, values, right or expect" : "not a number", word);
+        if (!read_number(reading, word, &number))
+            return 0;
         if (list->count == reading->list_limit)
             return fault(reading, reading->line, "more than %zu numbers, from here on: %s", reading->list_limit, word);
         list->entries = grown(list->entries, list->count, sizeof *list->entries);
@@ -195,8 +210,8 @@ static int read_line(struct reading *reading, char *line) {
     static const struct {
         const char *word;
         int (*read)(struct reading *reading, char *rest);
-    } beginnings[] = {{"order", read_order}, {"place", read_places}, {"labels", read_labels},
-                      {"values", read_set},  {"right", read_right},  {"expect", read_expected}};
+    } beginnings[] = {{"order", read_order}, {"place", read_places}, {"labels", read_labels},  {"values", read_set},
+                      {"right", read_right}, {"limit", read_limit},  {"expect", read_expected}};
     const char *word;
     line[strcspn(line, "#")] = 0;
     word = next_word(&line);

@@ -7,6 +7,7 @@
        2 4 0                       a coefficient for each place, in the order in which the text names the places
        right
        4 12                        the right side, one number for each row
+       limit 1e-9                  only if small pivots are to be refused: up to which size
        expect 17                   only if the set is to be refused: by which number
 
    What follows a # on a line is a comment. Numbers may stand on as many lines as one likes; what values and right begin, the next
@@ -27,6 +28,7 @@ struct value_set {
     size_t line;                 /* where it begins */
     struct numbers coefficients; /* in the text's order, as many as there are places */
     struct numbers right;        /* as many as the order says */
+    double limit;                /* the size up to which pivots are refused, or 0 */
     uint32_t expected;           /* the refusal that is wanted, or 0 */
 };
 

@@ -97,7 +97,7 @@ static int fetched(const char *path, struct program *program) {
     return answer == 0;
 }
 
-static void say_solution(const double *x, uint32_t order, const uint64_t out[3]) {
+static void say_solution(const double *x, uint32_t order, const uint64_t out[4]) {
     printf("  products %" PRIu64 ", quotients %" PRIu64, out[0], out[1]);
     for (uint32_t i = 0; i < order; i++) {
         if (i % 6 == 0)
@@ -108,7 +108,7 @@ static void say_solution(const double *x, uint32_t order, const uint64_t out[3])
 }
 
 /* Where a run ended: the entry whose formula was being worked out. A slot's place is found by the label that has it. */
-static void say_target(const struct plan *plan, const uint64_t out[3]) {
+static void say_target(const struct plan *plan, const uint64_t out[4]) {
     printf("  at %c(%" PRIu64 ")", "?CYX"[out[0] & 3], out[1]);
     if (out[0] == 1)
         say_place(":", plan, plan_label_of_slot(plan, out[1]));
@@ -116,7 +116,10 @@ static void say_target(const struct plan *plan, const uint64_t out[3]) {
 }
 
 static void say_ending(const struct value_set *set, uint32_t number) {
-    printf("values %s: %s", set->name, number == 0 ? "solved" : "refused");
+    printf("values %s", set->name);
+    if (set->limit != 0)
+        printf(", limit %g", set->limit);
+    printf(": %s", number == 0 ? "solved" : "refused");
     if (set->expected == 0)
         printf("\n");
     else if (number == set->expected)
@@ -128,11 +131,11 @@ static void say_ending(const struct value_set *set, uint32_t number) {
 /* Whether the set ended as the text expects. */
 static int ran(const struct program *program, const struct plan *plan, const struct value_set *set, struct tables *tables) {
     const uint32_t order = program->words[0], slots = program->words[2];
-    uint64_t out[3], answer;
+    uint64_t out[4], answer;
     for (size_t k = 0; k < plan->count; k++)
         tables->a[k] = set->coefficients.entries[plan->from[k]];
-    answer = crout_run(program->words, program->count, tables->a, plan->count, set->right.entries, set->right.count, tables->c, slots,
-                       tables->y, order, tables->x, order, out);
+    answer = crout_run_limit(program->words, program->count, tables->a, plan->count, set->right.entries, set->right.count, set->limit,
+                             tables->c, slots, tables->y, order, tables->x, order, out);
     say_ending(set, crout_refusal(answer));
     if (answer == 0)
         say_solution(tables->x, order, out);

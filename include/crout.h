@@ -1,11 +1,12 @@
 /* Reduced Crout for C: a plan is compiled to a program, and a program is run on coefficients.
 
-   Document 01 in the comments is docs/SCOPE.md, what the package is proved against. Every function answers on every input and
+   Documents 01 and 02 in the comments are docs/SCOPE.md, what the package is proved against. Every function answers on every input and
    writes only into what it is lent. A pointer is followed by the number of its entries; the slices of one call don't overlap, and a
    slice of no entries still has a pointer that isn't null.
 
    A call that can refuse returns 0, or the refusal's number times 2^32 plus its detail, and puts its further numbers into out,
-   three of them, zeros where none is named. crout_refusal and crout_detail split what was returned, crout_refusal_text says it.
+   three of them, or four where a limit is taken, zeros where none is named. crout_refusal and crout_detail split what was returned,
+   crout_refusal_text says it.
 
    The header is C99 and C++. examples/ has programs that call it. */
 #ifndef CROUT_H
@@ -18,7 +19,7 @@
 extern "C" {
 #endif
 
-/* The refusals, numbered as in document 01. The comment is the detail; where there is none, the detail is 0. */
+/* The refusals, numbered as in documents 01 and 02. The comment is the detail; where there is none, the detail is 0. */
 enum crout_refusal_number {
     CROUT_ORDER = 1,
     CROUT_WORK_SHORT = 2,    /* the numbers needed, n * n */
@@ -39,7 +40,8 @@ enum crout_refusal_number {
     CROUT_ZERO = 17,         /* the record */
     CROUT_FILE_BYTES = 18,
     CROUT_OUTPUT_SHORT = 19, /* the entries needed */
-    CROUT_LISTING_TEXT = 20  /* the listing program's alone: the position in its input, in bytes from 1 */
+    CROUT_LISTING_TEXT = 20, /* the listing program's alone: the position in its input, in bytes from 1 */
+    CROUT_LIMIT = 21
 };
 
 /* The refusal's number in what a call returned, 0 if it didn't refuse. */
@@ -99,14 +101,16 @@ static inline const char *crout_refusal_text(uint32_t number) {
     case CROUT_OVERFLOW:
         return "a result is too large for a double: scale the equations; the detail is the record";
     case CROUT_ZERO:
-        return "a pivot or a divisor is zero, so these coefficients have no solution in this order: "
-               "correct them or number the unknowns otherwise; the detail is the record";
+        return "a pivot is zero or within the run's limit, or a divisor is zero, so these coefficients have no solution "
+               "that can be relied on in this order: correct them or number the unknowns otherwise; the detail is the record";
     case CROUT_FILE_BYTES:
         return "the byte count is not a multiple of four: the file is cut off or is no program; fetch it again";
     case CROUT_OUTPUT_SHORT:
         return "the output slice is too short: lend as many entries as the detail says";
     case CROUT_LISTING_TEXT:
         return "the listing program's input is bad: correct it at the byte position that the detail gives";
+    case CROUT_LIMIT:
+        return "the limit for pivots is negative, infinite or not a number: give 0, or the size up to which a pivot counts as zero";
     default:
         return "no refusal has this number: what was split is not what a call returned, or a detail has passed 32 bits";
     }
@@ -134,14 +138,24 @@ uint64_t crout_write(const uint32_t *words, size_t words_len, uint8_t *bytes, si
 /* Reads a program file into words. out: words written, 0, 0. Refusals 18 and 19. */
 uint64_t crout_read(const uint8_t *bytes, size_t bytes_len, uint32_t *words, size_t words_len, uint64_t out[3]);
 
-/* Runs a program on coefficients a and a right side b. c, y and x take the tables and the solution.
-   out: products, quotients, 0; after 16 and 17 the table (1 for C, 2 for Y, 3 for X), the target's number, 0; the detail is then the record.
-   Refusals 7 to 17. */
+/* Runs a program on coefficients a and a right side b. c, y and x take the tables and the solution. A pivot l is refused by 17
+   where -limit <= l <= limit; 0 refuses zero alone.
+   out: products, quotients, 0, 0; after 16 and 17 the table (1 for C, 2 for Y, 3 for X), the target's number, 0, 0; the detail is then
+   the record. Refusals 7 to 17 and 21. */
+uint64_t crout_run_limit(const uint32_t *words, size_t words_len, const double *a, size_t a_len, const double *b, size_t b_len,
+                         double limit, double *c, size_t c_len, double *y, size_t y_len, double *x, size_t x_len, uint64_t out[4]);
+
+/* The same with limit 0. out: products, quotients, 0; after 16 and 17 the table, the target's number, 0. Refusals 7 to 17. */
 uint64_t crout_run(const uint32_t *words, size_t words_len, const double *a, size_t a_len, const double *b, size_t b_len,
                    double *c, size_t c_len, double *y, size_t y_len, double *x, size_t x_len, uint64_t out[3]);
 
-/* Compiles a plan and runs the program: crout_compile, then crout_run on the program's words. Refusals 1 to 6, 14 to 17; out as
-   crout_run's. */
+/* Compiles a plan and runs the program: crout_compile, then crout_run_limit on the program's words. Refusals 1 to 6, 14 to 17 and 21;
+   out as crout_run_limit's. */
+uint64_t crout_solve_limit(uint32_t n, const uint32_t *plan, size_t plan_len, const double *a, size_t a_len, const double *b,
+                           size_t b_len, double limit, uint32_t *work, size_t work_len, uint32_t *words, size_t words_len,
+                           double *c, size_t c_len, double *y, size_t y_len, double *x, size_t x_len, uint64_t out[4]);
+
+/* The same with limit 0. Refusals 1 to 6, 14 to 17; out as crout_run's. */
 uint64_t crout_solve(uint32_t n, const uint32_t *plan, size_t plan_len, const double *a, size_t a_len, const double *b, size_t b_len,
                      uint32_t *work, size_t work_len, uint32_t *words, size_t words_len,
                      double *c, size_t c_len, double *y, size_t y_len, double *x, size_t x_len, uint64_t out[3]);

@@ -62,6 +62,7 @@ says 'x = 1 2, 3 products' 0 $at/small
 # sheet: the published systems, then plans that are refused and every ending of a set
 same tests/examples/document002.out 0 $at/sheet examples/document002.txt $at/document002.crout
 same tests/examples/heating.out 0 $at/sheet examples/heating.txt $at/heating.crout
+same tests/examples/nearly_equal.out 0 $at/sheet examples/nearly_equal.txt $at/nearly_equal.crout
 same tests/examples/endings.out 1 $at/sheet tests/examples/endings.txt $at/endings.crout
 same tests/examples/missing.out 1 $at/sheet tests/examples/missing.txt $at/refused.crout
 same tests/examples/twice.out 1 $at/sheet tests/examples/twice.txt $at/refused.crout
@@ -101,17 +102,21 @@ broken '1: the order has to come first' 'values some\n'
 broken '3: a whole number is missing' 'order 2\n\nplace 1 1  2\n'
 broken '2: the table of order 2 has no place (3, 1)' 'order 2\nplace 3 1\n'
 broken '2: the table of order 2 has no label 5' 'order 2\nlabels 1 5\n'
-broken '2: not order, place, labels, values, right or expect: plase' 'order 2\nplase 1 1\n'
-broken '2: not order, place, labels, values, right or expect: 7' 'order 2\n7\n'
+broken '2: not order, place, labels, values, right, limit or expect: plase' 'order 2\nplase 1 1\n'
+broken '2: not order, place, labels, values, right, limit or expect: 7' 'order 2\n7\n'
 broken '2: a right side belongs to values, and there are none yet' 'order 2\nright\n'
+broken '2: a limit belongs to values, and there are none yet' 'order 2\nlimit 1\n'
 broken '2: a refusal is expected of values, and there are none yet' 'order 2\nexpect 17\n'
 broken '2: the values have no name' 'order 1\nvalues # none\n'
 broken '4: not a number: 1,5' 'order 1\nplace 1 1\nvalues some\n1,5\nright\n1\n'
+broken '4: a number is missing' 'order 1\nplace 1 1\nvalues some\nlimit\n'
+broken '4: not a number: 1e' 'order 1\nplace 1 1\nvalues some\nlimit 1e\n'
+broken '5: the line should end before: 3' 'order 1\nplace 1 1\nvalues some\n2\nlimit 1e-9 3\n'
 broken '4: more than 1 numbers, from here on: 3' 'order 1\nplace 1 1\nvalues some\n2 3\nright\n1\n'
 broken '3: some has 0 coefficients, but the plan 1 places' 'order 1\nplace 1 1\nvalues some\nright\n1\n'
 broken '3: the right side of some has 0 numbers, but the order is 1' 'order 1\nplace 1 1\nvalues some\n2\nvalues other\n'
 broken '7: all places have to come before the first values' 'order 1\nplace 1 1\nvalues some\n2\nright\n1\nplace 1 1\n'
-broken '6: not order, place, labels, values, right or expect: 1' 'order 1\nplace 1 1\nvalues some\n2\nexpect 17\n1\n'
+broken '6: not order, place, labels, values, right, limit or expect: 1' 'order 1\nplace 1 1\nvalues some\n2\nexpect 17\n1\n'
 broken '2: a zero byte: this is no text' 'order 1\n\0place 1 1\n'
 says 'examples/none.txt: No such file or directory' 1 $at/sheet examples/none.txt $at/none.crout
 

@@ -94,7 +94,7 @@ impl<'a> Run<'a> {
     fn plain(&self) -> Caller<'_> {
         let Case { words, a, b, products: count, .. } = self.case;
         caller(&self.tables, Tables::clear, move |to| {
-            let outcome = plain::run::run(words, a, b, &mut to.c, &mut to.y, &mut to.x);
+            let outcome = plain::run::run(words, a, b, 0.0, &mut to.c, &mut to.y, &mut to.x);
             assert!(matches!(outcome, plain::run::Outcome::Solved { products, .. } if products == *count));
         })
     }
@@ -102,7 +102,7 @@ impl<'a> Run<'a> {
     pub fn dense(&self) -> Caller<'_> {
         let Case { a, b, .. } = self.case;
         caller(&self.square, Square::clear, move |to| {
-            assert_eq!(self.dense.solve(a, b, &mut to.table, &mut to.x), Ok(()), "the values have a solution");
+            assert_eq!(self.dense.solve(a, b, 0.0, &mut to.table, &mut to.x), Ok(()), "the values have a solution");
         })
     }
 }

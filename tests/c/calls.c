@@ -1,5 +1,5 @@
-/* Every function of crout.h, called as a C program calls them, on document 01's known plans and values. The first difference
-   ends the program with a message and status 1.
+/* Every function of crout.h, called as a C program calls them, on the known plans and values. The first difference ends the program
+   with a message and status 1.
 
    GROUPS says how many groups of functions the library has: 1 labels, 2 compile, 3 check, write and read, 4 run and solve. */
 #include "crout.h"
@@ -165,19 +165,39 @@ static void dirty(void) {
         y[k] = x[k] = 7;
 }
 
-/* Runs the plan of all labels up to n * n, by two calls and by one: both return the same. c_len is the number of slots. */
-static uint64_t ran(uint32_t n, const double *a, const double *b, size_t c_len, uint64_t out[3]) {
+/* Runs the plan of all labels up to n * n with a limit, by two calls and by one: both return the same. c_len is the number of slots. */
+static uint64_t ran_limit(uint32_t n, const double *a, const double *b, double limit, size_t c_len, uint64_t out[4]) {
     const uint32_t plan[] = {1, 2, 3, 4};
-    uint64_t compiler[3], solved_out[3], returned, solved;
+    uint64_t compiler[3], solved_out[4], returned, solved;
     double solved_x[6];
     dirty();
-    solved = crout_solve(n, plan, n * n, a, n * n, b, n, work, COUNT(work), words, COUNT(words), c, c_len, y, n, x, n, solved_out);
+    solved = crout_solve_limit(n, plan, n * n, a, n * n, b, n, limit, work, COUNT(work), words, COUNT(words), c, c_len, y, n, x, n,
+                               solved_out);
     memcpy(solved_x, x, sizeof x);
     dirty();
     expect(crout_compile(n, plan, n * n, work, COUNT(work), words, COUNT(words), compiler) == 0, "a full table");
-    returned = crout_run(words, 4 * (size_t)compiler[2], a, n * n, b, n, c, c_len, y, n, x, n, out);
+    returned = crout_run_limit(words, 4 * (size_t)compiler[2], a, n * n, b, n, limit, c, c_len, y, n, x, n, out);
     expect(solved == returned && memcmp(solved_out, out, sizeof solved_out) == 0, "solve answers as run does");
     expect(memcmp(solved_x, x, sizeof x) == 0, "solve leaves the same X");
+    expect(out[2] == 0 && out[3] == 0, "the last two numbers");
+    return returned;
+}
+
+/* The same without a limit, by the calls that take none: they return what those with limit 0 do. */
+static uint64_t ran(uint32_t n, const double *a, const double *b, size_t c_len, uint64_t out[3]) {
+    const uint32_t plan[] = {1, 2, 3, 4};
+    uint64_t limit_out[4], solved_out[3], returned, solved;
+    const uint64_t limited = ran_limit(n, a, b, 0, c_len, limit_out);
+    double limited_x[6];
+    memcpy(limited_x, x, sizeof x);
+    dirty();
+    solved = crout_solve(n, plan, n * n, a, n * n, b, n, work, COUNT(work), words, COUNT(words), c, c_len, y, n, x, n, solved_out);
+    expect(solved == limited && memcmp(solved_out, limit_out, sizeof solved_out) == 0, "solve answers as with limit 0");
+    expect(memcmp(limited_x, x, sizeof x) == 0, "solve leaves the same X as with limit 0");
+    dirty();
+    returned = crout_run(words, 4 * (size_t)(n == 1 ? 8 : 23), a, n * n, b, n, c, c_len, y, n, x, n, out);
+    expect(returned == limited && memcmp(out, limit_out, sizeof solved_out) == 0, "run answers as with limit 0");
+    expect(memcmp(limited_x, x, sizeof x) == 0, "run leaves the same X as with limit 0");
     return returned;
 }
 
@@ -206,6 +226,23 @@ static void run(void) {
     expect(crout_run(listing, 31, v1_a, 1, v1_b, 1, c, 1, y, 1, x, 1, out) == refusal(7, 0) && c[0] == 7, "7 of a run");
 }
 
+static void limits(void) {
+    const double half = 0.5, minus_half = -0.5, one = 1, smallest = 0x1p-1074, zero = 0;
+    const double nearly_equal[] = {1, 1, 1, 1 + 0x1p-52}, b[] = {4, 12};
+    double infinite = 0x1p1000;
+    uint64_t out[4];
+    infinite *= infinite;
+    expect(ran_limit(1, &minus_half, &one, 0.5, 1, out) == refusal(17, 2) && same_numbers(out, 1, 1, 0), "a pivot of exactly -t");
+    expect(ran_limit(1, &half, &one, 0.5 - 0x1p-54, 1, out) == 0 && same_numbers(out, 0, 1, 0) && x[0] == 2, "a pivot just above t");
+    expect(ran_limit(1, &smallest, &zero, -0.0, 1, out) == 0, "a limit of -0");
+    expect(ran_limit(1, &one, &one, -0x1p-1074, 1, out) == refusal(21, 0) && same_numbers(out, 0, 0, 0) && x[0] == 7, "21, just below 0");
+    expect(ran_limit(1, &one, &one, infinite, 1, out) == refusal(21, 0) && c[0] == 7, "21, infinite");
+    expect(ran_limit(1, &one, &one, infinite - infinite, 1, out) == refusal(21, 0) && y[0] == 7, "21, not a number");
+    expect(ran_limit(1, &one, &infinite, -1, 1, out) == refusal(15, 1), "15 before 21");
+    expect(ran_limit(2, nearly_equal, b, 1e-9, 4, out) == refusal(17, 13) && same_numbers(out, 1, 4, 0), "a pivot of 2^-52");
+    expect(ran_limit(2, nearly_equal, b, 0, 4, out) == 0 && same_numbers(out, 3, 3, 0), "the same with limit 0");
+}
+
 static void document_002(void) {
     const double a[12] = {7, 2, -3, -3, -1, 8, -1, 1, 5, -2, 4, 6}, b[6] = {-11, 38, 0, 13, 11, -22};
     const double published[6] = {-1, 5, 0, 2, 4, -3};
@@ -232,6 +269,7 @@ int main(void) {
 #endif
 #if GROUPS >= 4
     run();
+    limits();
     document_002();
 #endif
     return 0;

@@ -21,16 +21,16 @@ static void answers(void) {
 }
 
 static void texts(void) {
-    const unsigned unknown = CROUT_LISTING_TEXT + 1;
+    const unsigned unknown = CROUT_LIMIT + 1;
     unsigned k, other;
-    /* 0, the twenty refusals and the first unknown number: each is said, and no two alike */
+    /* 0, the twenty-one refusals and the first unknown number: each is said, and no two alike */
     for (k = 0; k <= unknown; k++) {
         const char *text = crout_refusal_text(k);
         expect(strlen(text) > 20 && strchr(text, ':') != NULL && text[strlen(text) - 1] != '.', "a text", k);
         for (other = 0; other < k; other++)
             expect(strcmp(text, crout_refusal_text(other)) != 0, "a text that another number has too", k);
     }
-    expect(unknown == 21 && strcmp(crout_refusal_text(UINT32_MAX), crout_refusal_text(unknown)) == 0, "unknown numbers", unknown);
+    expect(unknown == 22 && strcmp(crout_refusal_text(UINT32_MAX), crout_refusal_text(unknown)) == 0, "unknown numbers", unknown);
 }
 
 int main(void) {

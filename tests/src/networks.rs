@@ -176,3 +176,24 @@ impl Values {
         a
     }
 }
+
+/// A limit for a run on such coefficients: zero of either sign, small, or the size of one of them.
+pub fn limit(a: &[f64], random: &mut Random) -> f64 {
+    match random.below(19) {
+        0..=7 => signed(0.0, random),
+        8..=12 => Values::Mixed.one(random).abs(),
+        13..=17 if !a.is_empty() => a[random.below(a.len())].abs(),
+        _ => 1e-9,
+    }
+}
+
+/// Limits that no run takes: negative, or not finite.
+pub const BAD_LIMITS: [f64; 6] = [-5e-324, -1.0, f64::NEG_INFINITY, f64::INFINITY, f64::NAN, -f64::NAN];
+
+/// As `limit`, but now and then a bad one.
+pub fn any_limit(a: &[f64], random: &mut Random) -> f64 {
+    match random.below(20) {
+        0 => BAD_LIMITS[random.below(BAD_LIMITS.len())],
+        _ => limit(a, random),
+    }
+}

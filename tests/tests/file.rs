@@ -3,8 +3,8 @@
 
 use std::collections::BTreeSet;
 
-use crout_tests::calls::Answer;
 use crout_tests::calls::file::{check, read, write};
+use crout_tests::calls::{Answer, refused};
 use crout_tests::lent::Lent;
 use crout_tests::random::Random;
 use crout_tests::reading::{self, Refusal};
@@ -17,7 +17,7 @@ fn bytes_of(words: &[u32]) -> Vec<u8> {
 /// The reading's verdict on a file, which is also the library's.
 fn verdict(file: &[u8]) -> Option<Refusal> {
     let expected = reading::file::check_file(file).err();
-    let returned = expected.map_or(0, |(number, detail)| Answer::refused(number, detail).returned);
+    let returned = expected.map_or(0, |(number, detail)| refused(number, detail));
     assert_eq!(check(file), returned, "expected {expected:?} on a file of {} bytes", file.len());
     expected
 }
@@ -254,7 +254,6 @@ fn smallest_with(index: usize, word: u32) -> u64 {
 
 #[test]
 fn each_refusal_once() {
-    let refused = |number, detail| Answer::refused(number, detail).returned;
     let file = bytes_of(&SMALLEST);
     assert_eq!(check(&file), 0);
     assert_eq!(check(&file[..127]), refused(18, 0), "18 before 7");
@@ -372,7 +371,7 @@ fn lengths_at_the_bounds_of_7() {
     assert_eq!(write(&words, &mut []), Answer::refused(7, 0), "7 before 19");
     assert_eq!(write(&words[1..], &mut [1; 9]), Answer::refused(19, 1_600_000_000));
     let file = vec![0u8; 1_600_000_016];
-    assert_eq!(check(&file), Answer::refused(7, 0).returned, "100,000,001 records");
-    assert_eq!(check(&file[16..]), Answer::refused(8, 0).returned, "100,000,000 records, order 0");
+    assert_eq!(check(&file), refused(7, 0), "100,000,001 records");
+    assert_eq!(check(&file[16..]), refused(8, 0), "100,000,000 records, order 0");
     assert_eq!(read(&file, &mut [1; 9]), Answer::refused(19, 400_000_004), "the reader has no 7");
 }

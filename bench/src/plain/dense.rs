@@ -36,8 +36,8 @@ impl Dense {
         vec![0.0; self.n * (self.n + 1)]
     }
 
-    /// Puts the coefficients into the table, which takes l, u and y, and solves.
-    pub fn solve(&self, a: &[f64], b: &[f64], table: &mut [f64], x: &mut [f64]) -> Result<(), Stop> {
+    /// Puts the coefficients into the table, which takes l, u and y, and solves; a pivot is refused up to the limit.
+    pub fn solve(&self, a: &[f64], b: &[f64], limit: f64, table: &mut [f64], x: &mut [f64]) -> Result<(), Stop> {
         let width = self.n + 1;
         table.fill(0.0);
         // -0 is read as +0
@@ -50,7 +50,7 @@ impl Dense {
         for first in (0..self.n).step_by(PANEL) {
             let end = (first + PANEL).min(self.n);
             for m in first..end {
-                column(width, first, m, table)?;
+                column(width, first, m, limit, table)?;
                 row(width, first, m, table)?;
             }
             if end < self.n {
@@ -62,7 +62,7 @@ impl Dense {
 }
 
 /// l(i, m) for i from m on, less the products of the panel.
-fn column(width: usize, first: usize, m: usize, table: &mut [f64]) -> Result<(), Stop> {
+fn column(width: usize, first: usize, m: usize, limit: f64, table: &mut [f64]) -> Result<(), Stop> {
     let (above, rows) = table.split_at_mut(m * width);
     let mut upper = [0.0; PANEL];
     for (h, factor) in (first..m).zip(&mut upper) {
@@ -74,7 +74,7 @@ fn column(width: usize, first: usize, m: usize, table: &mut [f64]) -> Result<(),
         if !value.is_finite() {
             return Err((16, at));
         }
-        if i == m && value == 0.0 {
+        if i == m && value.abs() <= limit {
             return Err((17, at));
         }
         row[m] = value;

@@ -9,7 +9,7 @@ pub enum Outcome {
     Refused { number: u32, detail: u64 },
 }
 
-pub fn run(words: &[u32], a: &[f64], b: &[f64], c: &mut [f64], y: &mut [f64], x: &mut [f64]) -> Outcome {
+pub fn run(words: &[u32], a: &[f64], b: &[f64], limit: f64, c: &mut [f64], y: &mut [f64], x: &mut [f64]) -> Outcome {
     if let Err((number, detail)) = check_words(words) {
         return Outcome::Refused { number, detail };
     }
@@ -21,7 +21,10 @@ pub fn run(words: &[u32], a: &[f64], b: &[f64], c: &mut [f64], y: &mut [f64], x:
     if let Some(position) = not_finite(a).or_else(|| not_finite(b)) {
         return Outcome::Refused { number: 15, detail: position as u64 + 1 };
     }
-    let outcome = follow(words, a, b, c, y, x);
+    if !(limit.is_finite() && limit >= 0.0) {
+        return Outcome::Refused { number: 21, detail: 0 };
+    }
+    let outcome = follow(words, a, b, limit, c, y, x);
     if let Outcome::Stopped { .. } = outcome {
         c.fill(0.0);
         y.fill(0.0);
@@ -32,7 +35,7 @@ pub fn run(words: &[u32], a: &[f64], b: &[f64], c: &mut [f64], y: &mut [f64], x:
 
 /// The records along the chain. A zero is made +0 by adding +0. The running number is never -0, so neither is it less a product,
 /// and a product that isn't finite gives a difference that isn't.
-fn follow(words: &[u32], a: &[f64], b: &[f64], c: &mut [f64], y: &mut [f64], x: &mut [f64]) -> Outcome {
+fn follow(words: &[u32], a: &[f64], b: &[f64], limit: f64, c: &mut [f64], y: &mut [f64], x: &mut [f64]) -> Outcome {
     let (mut running, mut table, mut target) = (0.0, 0, 0);
     let (mut products, mut quotients) = (0, 0);
     let mut at = words[3] as usize;
@@ -76,7 +79,7 @@ fn follow(words: &[u32], a: &[f64], b: &[f64], c: &mut [f64], y: &mut [f64], x: 
                 quotients += 1;
             }
             kind => {
-                if kind == 9 && running == 0.0 {
+                if kind == 9 && -limit <= running && running <= limit {
                     return stopped(17);
                 }
                 match table {

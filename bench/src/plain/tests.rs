@@ -97,10 +97,11 @@ fn the_same_runner() {
         let mut tables = [vec![7.0; s], vec![7.0; n], vec![7.0; n + usize::from(random.chance(0.02))]];
         let mut read_tables = tables.clone();
         let [c, y, x] = &mut tables;
-        let answer = run::run(&words, &a, &b, c, y, x);
+        let limit = networks::any_limit(&a, random);
+        let answer = run::run(&words, &a, &b, limit, c, y, x);
         let [c, y, x] = &mut read_tables;
-        assert_eq!(answer, outcome(reading::run::run(&words, &a, &b, c, y, x)), "{words:?} {a:?} {b:?}");
-        assert_eq!(bits(&tables), bits(&read_tables), "{words:?} {a:?} {b:?}");
+        assert_eq!(answer, outcome(reading::run::run(&words, &a, &b, limit, c, y, x)), "{words:?} {a:?} {b:?} {limit:e}");
+        assert_eq!(bits(&tables), bits(&read_tables), "{words:?} {a:?} {b:?} {limit:e}");
     }
 }
 
@@ -122,8 +123,9 @@ fn the_same_dense_crout() {
         // it may hold anything before
         let (mut table, mut x) = (dense.table(), vec![7.0; n as usize]);
         table.fill(7.0);
-        let ended = dense.solve(&a, &b, &mut table, &mut x);
-        match reading::dense::dense(n, &plan, &a, &b) {
+        let limit = networks::limit(&a, random);
+        let ended = dense.solve(&a, &b, limit, &mut table, &mut x);
+        match reading::dense::dense(n, &plan, &a, &b, limit) {
             Ok(read) => {
                 assert_eq!(ended, Ok(()), "order {n}, {plan:?} {a:?} {b:?}");
                 assert_eq!(bits(&as_read(n, &table, x)), bits(&[read.table, read.y, read.x]), "order {n}, {plan:?} {a:?} {b:?}");

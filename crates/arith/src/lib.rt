@@ -1,5 +1,5 @@
-// One float operation, and how a value is read: document 01, "Dense Crout" and "Running". Each result is
-// compared with the definition's bit for bit.
+// One float operation, and how a value is read: document 01, "Dense Crout" and "Running"; document 02, A.1.
+// Each result is compared with the definition's bit for bit.
 ghost use mathlib.Core.Path.{_≡_};
 ghost use mathlib.Core.Bool.{cond};
 ghost use Rattle.model.specs.Arith as model;
@@ -25,6 +25,20 @@ pub fn is_zero(value: f64) -> bool
     ensures { λ r. ⌜ r ≡ model.isZero value ⌝ }
 {
     value == 0.0
+}
+
+// Whether a pivot is refused: -limit <= value <= limit, by value, so that a limit of either zero takes zeros alone.
+pub fn is_small(limit: f64, value: f64) -> bool
+    ensures { λ r. ⌜ r ≡ model.isSmall limit value ⌝ }
+{
+    -limit <= value && value <= limit
+}
+
+// Whether the limit is one that a run takes: finite and not negative.
+pub fn is_limit(limit: f64) -> bool
+    ensures { λ r. ⌜ r ≡ model.isLimit limit ⌝ }
+{
+    is_finite(limit) && 0.0 <= limit
 }
 
 // The value with -0 as +0: +0 added to -0 is +0, and added to any other value it changes nothing.

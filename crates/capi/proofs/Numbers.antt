@@ -1,7 +1,8 @@
 -- Answers as numbers: what the proofs of the answering functions and of the exported ones share.
 use Prim.Native.Nat.{ℕ, _≤_, _<_, _^_}
-use mathlib.Core.Path.{_≡_, ap, _∙_}
-use mathlib.Core.List.{List}
+use mathlib.Core.Path.{_≡_, refl, ap, _∙_}
+use mathlib.Core.List.{List, [], _∷_}
+use lib.ListN.{getD}
 use native.Mathlib.Omega.{arith}
 use Rattle.model.specs.Check as Check
 use Rattle.model.specs.Check.{Verdict, fine}
@@ -10,13 +11,19 @@ use Rattle.model.specs.Compile.{Compiled, written}
 use Rattle.model.specs.Run.{Reply, solves, stops, refuses}
 use Rattle.model.specs.File as File
 use Rattle.model.specs.File.{Filed, filed}
-use Rattle.model.specs.Boundary.{verdictNumber, compiledNumber, filedNumber, replyNumber}
+use Rattle.model.specs.Boundary.{verdictNumber, compiledNumber, filedNumber, replyNumber, replyNumbers, limitNumbers}
 use Rattle.model.proofs.Small.{SmallVerdict, SmallCompiled, SmallFiled, SmallReply}
 
 -- an answer's number and its three numbers are those of what it equals: of the case that a match found, or of the model's value
 pub carried : {A : Type 0} (number : A → ℕ) (numbers : A → List ℕ) {a b : A} {r : ℕ} {out : List ℕ}
     → a ≡ b → (r ≡ number a) × (out ≡ numbers a) → (r ≡ number b) × (out ≡ numbers b)
 carried number numbers same (r, out) = (r ∙ ap number same, out ∙ ap numbers same)
+
+-- release 1's three numbers of a run are the first two of the four, and 0
+pub first-two : (v : Reply) → getD (limitNumbers v) 0 0 ∷ getD (limitNumbers v) 1 0 ∷ 0 ∷ [] ≡ replyNumbers v
+first-two (solves p q) = refl
+first-two (stops r k t n) = refl
+first-two (refuses r d) = refl
 
 -- the number of an answer that is a small value of the model fits 64 bits
 pub verdict-fits : {b : ℕ} {answer v : Verdict} → answer ≡ v → SmallVerdict b v → b ≤ 2 ^ 63 → verdictNumber answer < 2 ^ 64

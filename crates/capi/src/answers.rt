@@ -1,10 +1,11 @@
-// Answers as numbers: a refusal and its detail as one, and three further numbers in a lent array.
+// Answers as numbers: a refusal and its detail as one, and three or four further numbers in a lent array.
 use codec::Filing;
 use compiler::Compilation;
 use runner::Outcome;
 ghost use mathlib.Core.Path.{_≡_};
 ghost use Prim.Native.Nat.{_<_, _^_};
-ghost use Rattle.model.specs.Boundary.{refusalNumber, compiledNumber, compiledNumbers, filedNumber, filedNumbers, replyNumber, replyNumbers};
+ghost use Rattle.model.specs.Boundary.{refusalNumber, compiledNumber, compiledNumbers, filedNumber, filedNumbers};
+ghost use Rattle.model.specs.Boundary.{replyNumber, replyNumbers, limitNumbers};
 ghost use Rattle.compiler.specs.Compilation.{compiledOf};
 ghost use Rattle.codec.specs.Filing.{filedOf};
 ghost use Rattle.runner.specs.Outcome.{replyOf};
@@ -56,16 +57,16 @@ pub fn file_answer(answer: Filing, out: &mut [u64; 3]) -> u64
 }
 
 // A run's answer: products and quotients; after 16 and 17 the table and the target's number, the record being the detail.
-pub fn run_answer(answer: Outcome, out: &mut [u64; 3]) -> u64
+pub fn limit_answer(answer: Outcome, out: &mut [u64; 4]) -> u64
     requires { ⌜ replyNumber (replyOf answer) < 2 ^ 64 ⌝ }
-    ensures { λ r. ⌜ (r ≡ replyNumber (replyOf answer)) × (now (out .exit) ≡ replyNumbers (replyOf answer)) ⌝ }
+    ensures { λ r. ⌜ (r ≡ replyNumber (replyOf answer)) × (now (out .exit) ≡ limitNumbers (replyOf answer)) ⌝ }
 {
     match answer {
         Outcome::Solved {
             products,
             quotients,
         } => {
-            *out = [products as u64, quotients as u64, 0];
+            *out = [products as u64, quotients as u64, 0, 0];
             0
         }
         Outcome::Stopped {
@@ -74,12 +75,23 @@ pub fn run_answer(answer: Outcome, out: &mut [u64; 3]) -> u64
             table,
             target,
         } => {
-            *out = [table as u64, target as u64, 0];
+            *out = [table as u64, target as u64, 0, 0];
             refusal(number, record as u64)
         }
         Outcome::Refused { number, detail } => {
-            *out = [0, 0, 0];
+            *out = [0, 0, 0, 0];
             refusal(number, detail)
         }
     }
+}
+
+// The same with release 1's three numbers: the first two, and 0.
+pub fn run_answer(answer: Outcome, out: &mut [u64; 3]) -> u64
+    requires { ⌜ replyNumber (replyOf answer) < 2 ^ 64 ⌝ }
+    ensures { λ r. ⌜ (r ≡ replyNumber (replyOf answer)) × (now (out .exit) ≡ replyNumbers (replyOf answer)) ⌝ }
+{
+    let mut numbers = [0u64; 4];
+    let number = limit_answer(answer, &mut numbers);
+    *out = [numbers[0], numbers[1], 0];
+    number
 }

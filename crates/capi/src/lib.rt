@@ -1,14 +1,16 @@
-// The functions exported for C: document 01, "The C boundary". The header is include/crout.h.
+// The functions exported for C: document 01, "The C boundary"; document 02, A.1. The header is include/crout.h.
 mod answers;
 
 use answers::compile_answer;
 use answers::file_answer;
+use answers::limit_answer;
 use answers::refusal;
 use answers::run_answer;
 use checker::Checked;
 use labels::Located;
 ghost use mathlib.Core.Path.{_≡_};
 ghost use lib.ListN.{length};
+ghost use Rattle.model.specs.Arith.{plusZero};
 ghost use Rattle.model.specs.Compile.{compiles, workAfter};
 ghost use Rattle.model.specs.Compile.{wordsAfter as Compile·wordsAfter};
 ghost use Rattle.model.specs.Formula.{C, Y, X};
@@ -16,7 +18,8 @@ ghost use Rattle.model.specs.Run.{ran, reply, leaves};
 ghost use Rattle.model.specs.Solve.{solving, replied, leftIn};
 ghost use Rattle.model.specs.File.{writes, reads, bytesAfter, wordsAfter};
 ghost use Rattle.model.specs.Boundary.{labelNumber, placeNumber, checkNumber};
-ghost use Rattle.model.specs.Boundary.{compiledNumber, compiledNumbers, filedNumber, filedNumbers, replyNumber, replyNumbers};
+ghost use Rattle.model.specs.Boundary.{compiledNumber, compiledNumbers, filedNumber, filedNumbers};
+ghost use Rattle.model.specs.Boundary.{replyNumber, replyNumbers, limitNumbers};
 
 // The label of (i, j) in a table of order n; 0 if any of the three is out of range.
 #[no_mangle]
@@ -85,7 +88,30 @@ pub extern "C" fn crout_read(bytes: &[u8], words: &mut [u32], out: &mut [u64; 3]
     file_answer(codec::read_file(bytes, words), out)
 }
 
-// Runs a program. out: products, quotients, 0; after 16 and 17 the table, the target's number, 0.
+// Runs a program: a pivot l is refused where -limit <= l <= limit. out: products, quotients, 0, 0; after 16 and 17 the table, the target's
+// number, 0, 0.
+#[no_mangle]
+pub extern "C" fn crout_run_limit(
+    words: &[u32],
+    a: &[f64],
+    b: &[f64],
+    limit: f64,
+    c: &mut [f64],
+    y: &mut [f64],
+    x: &mut [f64],
+    out: &mut [u64; 4],
+) -> u64
+    ensures { λ r. let end = ran (now (words .entry)) (now (a .entry)) (now (b .entry)) limit
+        (length (now (c .entry))) (length (now (y .entry))) (length (now (x .entry))) in
+        ⌜ ((r ≡ replyNumber (reply end)) × (now (out .exit) ≡ limitNumbers (reply end)))
+        × ((now (c .exit) ≡ leaves end C (now (c .entry)))
+        × ((now (y .exit) ≡ leaves end Y (now (y .entry)))
+        × (now (x .exit) ≡ leaves end X (now (x .entry))))) ⌝ }
+{
+    limit_answer(runner::run(words, a, b, limit, c, y, x), out)
+}
+
+// Release 1's run: the limit is +0. out: products, quotients, 0; after 16 and 17 the table, the target's number, 0.
 #[no_mangle]
 pub extern "C" fn crout_run(
     words: &[u32],
@@ -96,21 +122,49 @@ pub extern "C" fn crout_run(
     x: &mut [f64],
     out: &mut [u64; 3],
 ) -> u64
-    ensures answer { λ r. ⌜ r ≡ replyNumber (reply (ran (now (words .entry)) (now (a .entry)) (now (b .entry))
-        (length (now (c .entry))) (length (now (y .entry))) (length (now (x .entry))))) ⌝ }
-    ensures c { λ r. ⌜ now (c .exit) ≡ leaves (ran (now (words .entry)) (now (a .entry)) (now (b .entry))
-        (length (now (c .entry))) (length (now (y .entry))) (length (now (x .entry)))) C (now (c .entry)) ⌝ }
-    ensures y { λ r. ⌜ now (y .exit) ≡ leaves (ran (now (words .entry)) (now (a .entry)) (now (b .entry))
-        (length (now (c .entry))) (length (now (y .entry))) (length (now (x .entry)))) Y (now (y .entry)) ⌝ }
-    ensures x { λ r. ⌜ now (x .exit) ≡ leaves (ran (now (words .entry)) (now (a .entry)) (now (b .entry))
-        (length (now (c .entry))) (length (now (y .entry))) (length (now (x .entry)))) X (now (x .entry)) ⌝ }
-    ensures numbers { λ r. ⌜ now (out .exit) ≡ replyNumbers (reply (ran (now (words .entry)) (now (a .entry)) (now (b .entry))
-        (length (now (c .entry))) (length (now (y .entry))) (length (now (x .entry))))) ⌝ }
+    ensures { λ r. let end = ran (now (words .entry)) (now (a .entry)) (now (b .entry)) plusZero
+        (length (now (c .entry))) (length (now (y .entry))) (length (now (x .entry))) in
+        ⌜ ((r ≡ replyNumber (reply end)) × (now (out .exit) ≡ replyNumbers (reply end)))
+        × ((now (c .exit) ≡ leaves end C (now (c .entry)))
+        × ((now (y .exit) ≡ leaves end Y (now (y .entry)))
+        × (now (x .exit) ≡ leaves end X (now (x .entry))))) ⌝ }
 {
-    run_answer(runner::run(words, a, b, c, y, x), out)
+    run_answer(runner::run(words, a, b, 0.0, c, y, x), out)
 }
 
-// Compiles a plan and runs the program. out as crout_run's.
+// Compiles a plan and runs the program. limit and out as crout_run_limit's.
+#[no_mangle]
+pub extern "C" fn crout_solve_limit(
+    n: u32,
+    plan: &[u32],
+    a: &[f64],
+    b: &[f64],
+    limit: f64,
+    work: &mut [u32],
+    words: &mut [u32],
+    c: &mut [f64],
+    y: &mut [f64],
+    x: &mut [f64],
+    out: &mut [u64; 4],
+) -> u64
+    ensures answer { λ r. let answer = replied n (now (plan .entry)) (now (a .entry)) (now (b .entry)) limit (length (now (work .entry)))
+        (length (now (words .entry))) (length (now (c .entry))) (length (now (y .entry))) (length (now (x .entry))) in
+        ⌜ (r ≡ replyNumber answer) × (now (out .exit) ≡ limitNumbers answer) ⌝ }
+    ensures work { λ r. ⌜ now (work .exit) ≡ workAfter n (now (plan .entry)) (now (work .entry)) (length (now (words .entry))) ⌝ }
+    ensures words { λ r. ⌜ now (words .exit) ≡ Compile·wordsAfter n (now (plan .entry)) (length (now (work .entry))) (now (words .entry)) ⌝ }
+    ensures tables { λ r. let end = solving n (now (plan .entry)) (now (a .entry)) (now (b .entry)) limit (length (now (work .entry)))
+        (length (now (words .entry))) (length (now (c .entry))) (length (now (y .entry))) (length (now (x .entry))) in
+        ⌜ (now (c .exit) ≡ leftIn end C (now (c .entry)))
+        × ((now (y .exit) ≡ leftIn end Y (now (y .entry)))
+        × (now (x .exit) ≡ leftIn end X (now (x .entry)))) ⌝ }
+{
+    limit_answer(
+        solver::solve(n, plan, a, b, limit, work, words, c, y, x),
+        out,
+    )
+}
+
+// Compiles a plan and runs the program, with limit +0. out as crout_run's.
 #[no_mangle]
 pub extern "C" fn crout_solve(
     n: u32,
@@ -124,18 +178,16 @@ pub extern "C" fn crout_solve(
     x: &mut [f64],
     out: &mut [u64; 3],
 ) -> u64
-    ensures answer { λ r. ⌜ r ≡ replyNumber (replied n (now (plan .entry)) (now (a .entry)) (now (b .entry)) (length (now (work .entry)))
-        (length (now (words .entry))) (length (now (c .entry))) (length (now (y .entry))) (length (now (x .entry)))) ⌝ }
+    ensures answer { λ r. let answer = replied n (now (plan .entry)) (now (a .entry)) (now (b .entry)) plusZero (length (now (work .entry)))
+        (length (now (words .entry))) (length (now (c .entry))) (length (now (y .entry))) (length (now (x .entry))) in
+        ⌜ (r ≡ replyNumber answer) × (now (out .exit) ≡ replyNumbers answer) ⌝ }
     ensures work { λ r. ⌜ now (work .exit) ≡ workAfter n (now (plan .entry)) (now (work .entry)) (length (now (words .entry))) ⌝ }
     ensures words { λ r. ⌜ now (words .exit) ≡ Compile·wordsAfter n (now (plan .entry)) (length (now (work .entry))) (now (words .entry)) ⌝ }
-    ensures c { λ r. ⌜ now (c .exit) ≡ leftIn (solving n (now (plan .entry)) (now (a .entry)) (now (b .entry)) (length (now (work .entry)))
-        (length (now (words .entry))) (length (now (c .entry))) (length (now (y .entry))) (length (now (x .entry)))) C (now (c .entry)) ⌝ }
-    ensures y { λ r. ⌜ now (y .exit) ≡ leftIn (solving n (now (plan .entry)) (now (a .entry)) (now (b .entry)) (length (now (work .entry)))
-        (length (now (words .entry))) (length (now (c .entry))) (length (now (y .entry))) (length (now (x .entry)))) Y (now (y .entry)) ⌝ }
-    ensures x { λ r. ⌜ now (x .exit) ≡ leftIn (solving n (now (plan .entry)) (now (a .entry)) (now (b .entry)) (length (now (work .entry)))
-        (length (now (words .entry))) (length (now (c .entry))) (length (now (y .entry))) (length (now (x .entry)))) X (now (x .entry)) ⌝ }
-    ensures numbers { λ r. ⌜ now (out .exit) ≡ replyNumbers (replied n (now (plan .entry)) (now (a .entry)) (now (b .entry)) (length (now (work .entry)))
-        (length (now (words .entry))) (length (now (c .entry))) (length (now (y .entry))) (length (now (x .entry)))) ⌝ }
+    ensures tables { λ r. let end = solving n (now (plan .entry)) (now (a .entry)) (now (b .entry)) plusZero (length (now (work .entry)))
+        (length (now (words .entry))) (length (now (c .entry))) (length (now (y .entry))) (length (now (x .entry))) in
+        ⌜ (now (c .exit) ≡ leftIn end C (now (c .entry)))
+        × ((now (y .exit) ≡ leftIn end Y (now (y .entry)))
+        × (now (x .exit) ≡ leftIn end X (now (x .entry)))) ⌝ }
 {
-    run_answer(solver::solve(n, plan, a, b, work, words, c, y, x), out)
+    run_answer(solver::solve(n, plan, a, b, 0.0, work, words, c, y, x), out)
 }

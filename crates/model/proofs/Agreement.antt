@@ -10,10 +10,10 @@ use Rattle.model.specs.Formula.{C, Y, X, Ended, solved, refused}
 use Rattle.model.specs.Crout.{reducedFormulas, dense}
 use Rattle.model.specs.Program.{compiled, compiledRecords}
 use Rattle.model.specs.Check.{chain}
-use Rattle.model.specs.Run.{fresh, follow, ran}
-use Rattle.model.specs.Agreement.{Accepted, whole, seen, compressed}
+use Rattle.model.specs.Run.{fresh, follow, followed, ran}
+use Rattle.model.specs.Agreement.{Accepted, whole, seen, compressed, Agrees}
 use Rattle.model.proofs.Within.{within-range}
-use Rattle.model.proofs.Runs.{gated-open, lengths-right, ran-fine}
+use Rattle.model.proofs.Runs.{gated-open, finite-fine, lengths-right, ran-fine}
 use Rattle.model.proofs.Tally.{productsOf, quotientsOf}
 use Rattle.model.proofs.Machine.{machine, reduced-started, shown}
 use Rattle.model.proofs.Reduction.{squeezed, reduced-is-dense, solved-packed}
@@ -21,34 +21,34 @@ use Rattle.model.proofs.Counts.{products-counted, quotients-counted}
 use Rattle.model.proofs.Chain.{program-chain}
 use Rattle.model.proofs.Checked.{program-fine}
 
-module _ {N : ℕ} {L : Plan} {A B : List Float} (accepted : Accepted N L A B) where
+module _ {N : ℕ} {L : Plan} {A B : List Float} {limit : Float} (accepted : Accepted N L A B limit) where
   open Accepted accepted using (given, pivots)
 
   -- the checks before the first record let the run through
-  pub runs : ran (compiled N L) A B (slots N L) N N ≡ follow A B (fresh N) (chain (compiled N L) .links)
+  pub runs : ran (compiled N L) A B limit (slots N L) N N ≡ followed (follow A B limit (fresh N) (chain (compiled N L) .links))
   unfolding compiled
   runs =
-      ran-fine (compiled N L) A B (slots N L) N N (program-fine N L (given .order) (given .labels) pivots)
-      ∙ gated-open _ _ _ _ _ _ (lengths-right N (length L) (slots N L) _ _ _ _ _ (given .lengthA) (given .lengthB) refl refl refl)
-      (given .finiteA) (given .finiteB)
+      ran-fine (compiled N L) A B limit (slots N L) N N (program-fine N L (given .order) (given .labels) pivots)
+      ∙ gated-open _ _ _ _ _ (lengths-right N (length L) (slots N L) _ _ _ _ _ (given .lengthA) (given .lengthB) refl refl refl)
+      (finite-fine A B limit (record { finiteA = given .finiteA; finiteB = given .finiteB; limited = given .limited }))
 
   -- the run's ending is that of the reduced formulas, with the plan's counts
-  follows : seen (ran (compiled N L) A B (slots N L) N N) ≡ shown (productCount N L) (N + above N L) (squeezed N L (dense N L A B))
+  follows : seen (ran (compiled N L) A B limit (slots N L) N N) ≡ shown (productCount N L) (N + above N L) (squeezed N L (dense N L A B limit))
   unfolding compiledRecords dense
   follows =
       let first : 1 ≤ N = within-range N 600 (given .order) .0 in
       let products : 0 + productsOf (reducedFormulas N L) ≡ productCount N L = omega (arith, products-counted N L) in
       let quotients : 0 + quotientsOf (reducedFormulas N L) ≡ N + above N L = omega (arith, quotients-counted N L pivots) in
-      ap seen runs ∙ ap (λ c. seen (follow A B (fresh N) (c .links))) (program-chain N L first)
-      ∙ machine A B (reducedFormulas N L) (reduced-started N L) (fresh N) 1 ∙ rw (products, quotients, reduced-is-dense accepted)
+      ap seen runs ∙ ap (λ c. seen (followed (follow A B limit (fresh N) (c .links)))) (program-chain N L first)
+      ∙ machine A B limit (reducedFormulas N L) (reduced-started N L) (fresh N) 1 ∙ rw (products, quotients, reduced-is-dense accepted)
 
-  shows : (e : Ended) → dense N L A B ≡ e → shown (productCount N L) (N + above N L) (squeezed N L e) ≡ compressed N L e
+  shows : (e : Ended) → dense N L A B limit ≡ e → shown (productCount N L) (N + above N L) (squeezed N L e) ≡ compressed N L e
   unfolding shown squeezed compressed
   shows (solved t) e = ap (λ u. whole u (productCount N L) (N + above N L)) (solved-packed given t e)
   shows (refused r C k) e = refl
   shows (refused r Y k) e = refl
   shows (refused r X k) e = refl
 
-  -- The headline.
-  pub agreement : seen (ran (compiled N L) A B (slots N L) N N) ≡ compressed N L (dense N L A B)
-  agreement = follows ∙ shows (dense N L A B) refl
+-- The headline.
+pub agreement : (N : ℕ) (L : Plan) (A B : List Float) (limit : Float) → Agrees N L A B limit
+agreement N L A B limit accepted = follows accepted ∙ shows accepted (dense N L A B limit) refl

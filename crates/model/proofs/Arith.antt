@@ -3,19 +3,22 @@
 use mathlib.Core.Path.{_≡_, refl, sym, ap, _∙_}
 use mathlib.Core.Bool.{Bool, true, false, cond, _&&_, true≢false, false≢true}
 use Prim.Native.Nat.{ℕ, zero, suc, _+_, _-_, _*_, _/_, _%_, _^_, _≤_, _<_}
-use native.Mathlib.Nat.{add-zero, sub-zero, zero-mul, mul-zero, mul-one, one-mul, mul-pos, mul-lt-mul-of-pos-right, lt-of-mul-lt-mul-right, zero-lt-suc}
+use native.Mathlib.Nat.{zero-add, add-zero, sub-zero, zero-mul, mul-zero, mul-one, one-mul}
+use native.Mathlib.Nat.{mul-pos, mul-lt-mul-of-pos-right, lt-of-mul-lt-mul-right, zero-lt-suc}
 use native.Mathlib.Omega.{arith}
+use borrow.Author.Tests.{lt-ltb, le-ltb, ne-eqb}
 use lib.IntN.{ℤ, pos, negsuc}
 use lib.Dec.{T, leb, ltb, eqb, leb→le, ltb→lt, leb·suc-zero, eqb·suc-zero}
 use lib.Pow.{pow-add, pow-pos, pow-lt}
-use lib.Ieee.{Float, nan, inf, fin, Format, binary64, prec, emax, low, up, down, unlike, round, sum, sub, mul, div, fits, toBits, ofBits}
+use lib.Ieee.{Float, nan, inf, fin, Format, binary64, prec, emax, low, up, down, unlike, round, sum, sub, mul, div, neg, lt, eq, le, fits, toBits, ofBits}
 use lib.Ieee.Bits.{ofBits-toBits}
 use lib.Ieee.Digits.{back}
 use lib.Ieee.Exact.{HasValue, round-exact}
 use lib.Ieee.Fits.{up-pos, down-pos, round-fits, mul-fits, sub-fits, div-fits}
 use lib.Ieee.Nearest.{div-same}
 use lib.Ieee.Scale.{round-same}
-use Rattle.model.specs.Arith.{plusZero, Answer, number, overflow, zeroDivisor, clean, settled, isZero, isFinite, product, difference, quotient}
+use Rattle.model.specs.Arith.{plusZero, Answer, number, overflow, zeroDivisor, clean, settled, isZero, isFinite, isSmall, isLimit}
+use Rattle.model.specs.Arith.{product, difference, quotient}
 
 -- a finite value of binary64 that isn't -0
 pub data Good : Float → Type 0 where
@@ -161,3 +164,41 @@ pub difference-nought : {x : Float} → Good x → difference x plusZero ≡ num
 unfolding difference sub settled
 difference-nought nought = refl
 difference-nought (nonzero {s} {m} {e} h) = ap settled (sub-nought binary64 s m e h)
+
+-- ---- the limit
+
+-- what is compared with 0 where the digits are not 0
+some-units : (m : ℕ) (e : ℤ) → 0 < suc m * up e * 1
+some-units m e = mul-pos (mul-pos (zero-lt-suc m) (up-pos e)) (zero-lt-suc 0)
+
+-- +0 is small for every limit
+pub small-nought : (t : Float) → isLimit t ≡ true → isSmall t plusZero ≡ true
+unfolding isSmall isLimit isFinite neg le lt eq
+small-nought nan l = absurd (false≢true l)
+small-nought (inf s) l = absurd (false≢true l)
+small-nought (fin false zero e) l = simp zero-mul
+small-nought (fin true zero e) l = simp zero-mul
+small-nought (fin false (suc m) e) l = simp (zero-mul, add-zero, lt-ltb 0 (suc m * up e * 1) (some-units m e))
+small-nought (fin true (suc m) e) l =
+    absurd (false≢true (simp (zero-mul, ne-eqb 0 (suc m * up e * 1) (λ z. omega (arith, some-units m e))) at l))
+
+-- so a good value that isn't small isn't zero
+pub large-nonzero : (t : Float) {x : Float} → isLimit t ≡ true → Good x → isSmall t x ≡ false → isZero x ≡ false
+unfolding isZero
+large-nonzero t l nought e = absurd (true≢false (sym (small-nought t l) ∙ e))
+large-nonzero t l (nonzero h) e = refl
+
+-- with limit +0 the small values are the zeros
+pub small-zero : (v : Float) → isSmall plusZero v ≡ isZero v
+unfolding isSmall isZero neg le lt eq
+small-zero nan = refl
+small-zero (inf false) = refl
+small-zero (inf true) = refl
+small-zero (fin false zero e) = simp zero-mul
+small-zero (fin true zero e) = simp zero-mul
+small-zero (fin false (suc m) e) =
+    let p = some-units m e in
+    simp (zero-mul, zero-add, lt-ltb 0 (suc m * up e * 1) p, le-ltb (suc m * up e * 1) 0 (omega arith), ne-eqb (suc m * up e * 1) 0 (λ z. omega arith))
+small-zero (fin true (suc m) e) =
+    let p = some-units m e in
+    simp (zero-mul, le-ltb (suc m * up e * 1) 0 (omega arith), ne-eqb 0 (suc m * up e * 1) (λ z. omega arith))

@@ -8,14 +8,14 @@ use lib.Dec.{eqb, ltb, leb·zero, leb·suc-suc, eqb·suc-zero}
 use lib.ListN.{length}
 use lib.Ieee.{Float}
 use Rattle.model.specs.Lists.{joined, kept, total}
-use Rattle.model.specs.Arith.{Answer, number, overflow, zeroDivisor, quotient, isZero, next}
+use Rattle.model.specs.Arith.{Answer, number, overflow, zeroDivisor, quotient, isSmall, next}
 use Rattle.model.specs.Fill.{Plan}
 use Rattle.model.specs.Formula.{Table, C, Y, X, Tables, Formula, numberOf, entry, closed, Ended, solved, refused, worked}
 use Rattle.model.specs.Formula.{starting, less, lessAll, over, tested, value}
 use Rattle.model.specs.Crout.{lower, forward, upper, backward, batch, formulas, reducedFormulas}
 use Rattle.model.specs.Program.{Record, rec, opening, recordsOf}
 use Rattle.model.specs.Check.{kindOf, subtracts}
-use Rattle.model.specs.Run.{State, Stepped, going, stop, opened, closing, settledStep, step, follow}
+use Rattle.model.specs.Run.{State, Stepped, going, stop, opened, closing, settledStep, step, follow, followed}
 use Rattle.model.specs.Agreement.{Seen, whole, ended, seen}
 use Rattle.model.proofs.Lists.{Each, cons-each, rising-each, falling-each, append-each, joined-each, map-each}
 use Rattle.model.proofs.Links.{linksFrom}
@@ -68,21 +68,22 @@ settled-test false v after = refl
 positive : (d : ℕ) → ltb 0 (suc d) ≡ true
 positive d = leb·suc-suc 0 d ∙ leb·zero d
 
-module _ (A B : List Float) where
+module _ (A B : List Float) (limit : Float) where
   -- what is seen of a run of records, whatever their indices
   run : State → List Record → Seen
   run z [] = whole (z .tables) (z .products) (z .quotients)
-  run z (r ∷ rs) = elim (step A B z (kindOf (r .kind)) (r .p) (r .q)) [ going z′ ↦ run z′ rs | stop n ↦ ended n (z .table) (z .target) ]
+  run z (r ∷ rs) = elim (step A B limit z (kindOf (r .kind)) (r .p) (r .q)) [ going z′ ↦ run z′ rs | stop n ↦ ended n (z .table) (z .target) ]
 
-  seen-follow : (z : State) (k : ℕ) (rs : List Record) → seen (follow A B z (linksFrom k rs)) ≡ run z rs
-  unfolding run follow linksFrom seen
+  seen-follow : (z : State) (k : ℕ) (rs : List Record) → seen (followed (follow A B limit z (linksFrom k rs))) ≡ run z rs
+  unfolding run follow followed linksFrom seen
   seen-follow z k [] = refl
-  seen-follow z k (r ∷ rs) = by (step A B z (kindOf (r .kind)) (r .p) (r .q)) refl (λ z′. seen-follow z′ (suc k) rs)
+  seen-follow z k (r ∷ rs) = by (step A B limit z (kindOf (r .kind)) (r .p) (r .q)) refl (λ z′. seen-follow z′ (suc k) rs)
     where
-      by : (s : Stepped) → step A B z (kindOf (r .kind)) (r .p) (r .q) ≡ s → ((z′ : State) → seen (follow A B z′ (linksFrom (suc k) rs)) ≡ run z′ rs)
-          → seen (follow A B z (linksFrom k (r ∷ rs))) ≡ run z (r ∷ rs)
-      by (going z′) e rest = rw (e, seen, follow, run) (rest z′)
-      by (stop n) e rest = rw (e, seen, follow, run)
+      by : (s : Stepped) → step A B limit z (kindOf (r .kind)) (r .p) (r .q) ≡ s
+          → ((z′ : State) → seen (followed (follow A B limit z′ (linksFrom (suc k) rs))) ≡ run z′ rs)
+          → seen (followed (follow A B limit z (linksFrom k (r ∷ rs)))) ≡ run z (r ∷ rs)
+      by (going z′) e rest = rw (e, seen, followed, follow, run) (rest z′)
+      by (stop n) e rest = rw (e, seen, followed, follow, run)
 
   module _ (f : Formula) (t : Tables) where
     -- f's target is open, with the running number v, and p products and q quotients are made
@@ -90,7 +91,8 @@ module _ (A B : List Float) where
     midway p q v = record { tables = t; table = f .table; target = f .target; running = v; products = p; quotients = q }
 
     run-answer : (p q : ℕ) (v : Float) (r : Record) (rs : List Record) (a : Answer) (after : Float → State)
-        → step A B (midway p q v) (kindOf (r .kind)) (r .p) (r .q) ≡ settledStep a after → run (midway p q v) (r ∷ rs) ≡ resumed f a (λ w. run (after w) rs)
+        → step A B limit (midway p q v) (kindOf (r .kind)) (r .p) (r .q) ≡ settledStep a after
+        → run (midway p q v) (r ∷ rs) ≡ resumed f a (λ w. run (after w) rs)
     unfolding run resumed
     run-answer p q v r rs (number w) after e = rw (e, run)
     run-answer p q v r rs overflow after e = rw (e, run)
@@ -98,7 +100,7 @@ module _ (A B : List Float) where
 
     -- a record that does the operation op
     run-record : (a : Answer) (op : Float → Answer) (p q : ℕ) (r : Record) (rs : List Record) (after : Float → State)
-        → ((v : Float) → step A B (midway p q v) (kindOf (r .kind)) (r .p) (r .q) ≡ settledStep (op v) after)
+        → ((v : Float) → step A B limit (midway p q v) (kindOf (r .kind)) (r .p) (r .q) ≡ settledStep (op v) after)
         → resumed f a (λ v. run (midway p q v) (r ∷ rs)) ≡ resumed f (next a op) (λ v. run (after v) rs)
     run-record a op p q r rs after steps = resumed-next f a op _ _ (λ v. run-answer p q v r rs (op v) after (steps v))
 
@@ -120,10 +122,10 @@ module _ (A B : List Float) where
         rw (eqb·suc-zero d, ← counted) (run-record a (λ v. quotient v (entry t C (suc d))) p q _ rs (midway p (suc q)) (λ v. refl))
 
     run-closing : (a : Answer) (pivot : Bool) (p q : ℕ) (rs : List Record)
-        → resumed f a (λ v. run (midway p q v) (rec (cond pivot 9 8) 0 0 ∷ rs)) ≡ resumed f (tested pivot a) (λ v. run (closing (midway p q v)) rs)
+        → resumed f a (λ v. run (midway p q v) (rec (cond pivot 9 8) 0 0 ∷ rs)) ≡ resumed f (tested limit pivot a) (λ v. run (closing (midway p q v)) rs)
     unfolding tested step kindOf
     run-closing a false p q rs = rw next-number at (run-record a number p q (rec 8 0 0) rs (λ v. closing (midway p q v)) (λ v. refl))
-    run-closing a true p q rs = run-record a _ p q _ rs _ (λ v. settled-test (isZero v) v (λ w. closing (midway p q w)))
+    run-closing a true p q rs = run-record a _ p q _ rs _ (λ v. settled-test (isSmall limit v) v (λ w. closing (midway p q w)))
 
   run-opening : (t : Table) (start k : ℕ) → StartedAt t start k → (z : State) (rs : List Record)
       → run z (opening t start k ∷ rs) ≡ run (opened z t k (starting A B (z .tables) t start)) rs
@@ -135,7 +137,7 @@ module _ (A B : List Float) where
   -- the records of one formula work its value out
   run-formula : (f : Formula) → Started f → (z : State) (p q : ℕ) (rs : List Record)
       → z .products + length (f .products) ≡ p → z .quotients + cond (ltb 0 (f .divisor)) 1 0 ≡ q
-      → run z (recordsOf f ++ rs) ≡ resumed f (value A B (z .tables) f) (λ v. run (closing (midway f (z .tables) p q v)) rs)
+      → run z (recordsOf f ++ rs) ≡ resumed f (value A B limit (z .tables) f) (λ v. run (closing (midway f (z .tables) p q v)) rs)
   unfolding recordsOf value Started resumed
   run-formula f started z p q rs products quotients = simp append-assoc
       (run-opening (f .table) (f .start) (f .target) started z _
@@ -145,18 +147,18 @@ module _ (A B : List Float) where
 
   -- a row of formulas goes on after its first as a run does
   resumed-worked : (p q : ℕ) (t : Tables) (f : Formula) (fs : List Formula) (on : Float → Seen)
-      → ((v : Float) → on v ≡ shown p q (worked A B (closed t (f .table) v) fs))
-      → resumed f (value A B t f) on ≡ shown p q (worked A B t (f ∷ fs))
+      → ((v : Float) → on v ≡ shown p q (worked A B limit (closed t (f .table) v) fs))
+      → resumed f (value A B limit t f) on ≡ shown p q (worked A B limit t (f ∷ fs))
   unfolding worked shown resumed
-  resumed-worked p q t f fs on same = by (value A B t f) refl
+  resumed-worked p q t f fs on same = by (value A B limit t f) refl
     where
-      by : (a : Answer) → value A B t f ≡ a → resumed f (value A B t f) on ≡ shown p q (worked A B t (f ∷ fs))
+      by : (a : Answer) → value A B limit t f ≡ a → resumed f (value A B limit t f) on ≡ shown p q (worked A B limit t (f ∷ fs))
       by (number v) e = rw (e, shown, worked) (same v)
       by overflow e = rw (e, shown, worked)
       by zeroDivisor e = rw (e, shown, worked)
 
   run-formulas : (fs : List Formula) → Each Started fs → (z : State) (p q : ℕ) → z .products + productsOf fs ≡ p → z .quotients + quotientsOf fs ≡ q
-      → run z (joined (map recordsOf fs)) ≡ shown p q (worked A B (z .tables) fs)
+      → run z (joined (map recordsOf fs)) ≡ shown p q (worked A B limit (z .tables) fs)
   unfolding run joined worked shown productsOf quotientsOf total kept
   run-formulas [] started z p q products quotients = ap₂ (λ m n. whole (z .tables) m n) (omega arith) (omega arith)
   run-formulas (f ∷ fs) started z p q products quotients =
@@ -165,10 +167,10 @@ module _ (A B : List Float) where
       (omega (arith, productsOf-cons f fs)) (omega (arith, quotientsOf-cons f fs)))
 
 -- The run of the records of formulas, from any state and any index on, ends as the formulas worked out do, and has counted their products and quotients.
-pub machine : (A B : List Float) (fs : List Formula) → Each Started fs → (z : State) (k : ℕ)
-    → seen (follow A B z (linksFrom k (joined (map recordsOf fs))))
-    ≡ shown (z .products + productsOf fs) (z .quotients + quotientsOf fs) (worked A B (z .tables) fs)
-machine A B fs started z k = seen-follow A B z k (joined (map recordsOf fs)) ∙ run-formulas A B fs started z _ _ refl refl
+pub machine : (A B : List Float) (limit : Float) (fs : List Formula) → Each Started fs → (z : State) (k : ℕ)
+    → seen (followed (follow A B limit z (linksFrom k (joined (map recordsOf fs)))))
+    ≡ shown (z .products + productsOf fs) (z .quotients + quotientsOf fs) (worked A B limit (z .tables) fs)
+machine A B limit fs started z k = seen-follow A B limit z k (joined (map recordsOf fs)) ∙ run-formulas A B limit fs started z _ _ refl refl
 
 -- what `machine` asks, for the formulas that the compiler keeps
 pub reduced-started : (N : ℕ) (L : Plan) → Each Started (reducedFormulas N L)

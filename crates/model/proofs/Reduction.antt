@@ -13,7 +13,7 @@ use Rattle.model.specs.Fill.{Plan, held, slot, missing}
 use Rattle.model.specs.Arith.{plusZero, Answer, number, overflow, zeroDivisor, isZero}
 use Rattle.model.specs.Formula.{Table, C, Y, X, Tables, Formula, closed, value, Ended, solved, refused, worked}
 use Rattle.model.specs.Crout.{lower, upper, forward, backward, reducedFormulas, nothing, dense}
-use Rattle.model.specs.Agreement.{Given, Accepted, packed}
+use Rattle.model.specs.Agreement.{Given, Accepted, packed, NeverSolved}
 use Rattle.model.proofs.Labels.{Inside, label-range, place-of-label}
 use Rattle.model.proofs.Plans.{pivot-held, missing-free}
 use Rattle.model.proofs.Picked.{picked, shrunk, shrunk-y, shrunk-x, shrunk-held, shrunk-unheld, shrunk-packed}
@@ -37,10 +37,10 @@ record Targets (f : Formula) (tb : Table) (k : ℕ) : Type 0 where
   table-is : f .table ≡ tb
   target-is : f .target ≡ k
 
-worked-cons : {f : Formula} {tb : Table} {k : ℕ} → Targets f tb k → (A B : List Float) (t : Tables) (fs : List Formula)
-    → worked A B t (f ∷ fs) ≡ onward (value A B t f) tb k (λ v. worked A B (closed t tb v) fs)
+worked-cons : {f : Formula} {tb : Table} {k : ℕ} → Targets f tb k → (A B : List Float) (limit : Float) (t : Tables) (fs : List Formula)
+    → worked A B limit t (f ∷ fs) ≡ onward (value A B limit t f) tb k (λ v. worked A B limit (closed t tb v) fs)
 unfolding worked
-worked-cons {f} to A B t fs = ap₂ (λ tb k. onward (value A B t f) tb k (λ v. worked A B (closed t tb v) fs)) (to .table-is) (to .target-is)
+worked-cons {f} to A B limit t fs = ap₂ (λ tb k. onward (value A B limit t f) tb k (λ v. worked A B limit (closed t tb v) fs)) (to .table-is) (to .target-is)
 
 place-targets : (N : ℕ) (L : Plan) (index : ℕ → ℕ → ℕ) (keep : ℕ → ℕ → Bool) (i j : ℕ) → Targets (formulaOf N L index keep i j) C (index i j)
 unfolding formulaOf lower upper
@@ -58,9 +58,9 @@ backward-targets : (N : ℕ) (L : Plan) (index : ℕ → ℕ → ℕ) (keep : �
 unfolding backward
 backward-targets N L index keep i = record { table-is = refl; target-is = refl }
 
-worked-nil : (A B : List Float) (t : Tables) → worked A B t [] ≡ solved t
+worked-nil : (A B : List Float) (limit : Float) (t : Tables) → worked A B limit t [] ≡ solved t
 unfolding worked
-worked-nil A B t = refl
+worked-nil A B limit t = refl
 
 -- a row that ends solved goes on after a number
 onward-solved : (P : Type 0) (a : Answer) (tb : Table) (k : ℕ) (rest : Float → Ended) (t : Tables) → onward a tb k rest ≡ solved t
@@ -75,42 +75,43 @@ onward-same N L (number v) tb k k′ rest rest′ ends go = go v refl
 onward-same N L overflow tb k k′ rest rest′ ends go = ends 16
 onward-same N L zeroDivisor tb k k′ rest rest′ ends go = ends 17
 
-worked-solved : {f : Formula} {tb : Table} {k : ℕ} → Targets f tb k → (P : Type 0) (A B : List Float) (t t′ : Tables) (fs : List Formula)
-    → worked A B t (f ∷ fs) ≡ solved t′
-    → ((v : Float) → value A B t f ≡ number v → worked A B (closed t tb v) fs ≡ solved t′ → P) → P
-worked-solved to P A B t t′ fs e go = onward-solved P _ _ _ _ t′ (sym (worked-cons to A B t fs) ∙ e) go
+worked-solved : {f : Formula} {tb : Table} {k : ℕ} → Targets f tb k → (P : Type 0) (A B : List Float) (limit : Float) (t t′ : Tables) (fs : List Formula)
+    → worked A B limit t (f ∷ fs) ≡ solved t′
+    → ((v : Float) → value A B limit t f ≡ number v → worked A B limit (closed t tb v) fs ≡ solved t′ → P) → P
+worked-solved to P A B limit t t′ fs e go = onward-solved P _ _ _ _ t′ (sym (worked-cons to A B limit t fs) ∙ e) go
 
-module _ {N : ℕ} {L : Plan} {A B : List Float} (given : Given N L A B) where
-  reads : Reads A B
-  reads = record { a = reads-good A (given .valuesA) (given .finiteA); b = reads-good B (given .valuesB) (given .finiteB) }
+module _ {N : ℕ} {L : Plan} {A B : List Float} {limit : Float} (given : Given N L A B limit) where
+  reads : Reads A B limit
+  reads = record { a = reads-good A (given .valuesA) (given .finiteA); b = reads-good B (given .valuesB) (given .finiteB); limited = given .limited }
 
   place-sound : {n : ℕ} {t : Tables} (i j : ℕ) → Inside N i j → suc n ≡ label N i j → Sound N L n t
-      → (v : Float) → value A B t (denseOf N L i j) ≡ number v → Sound N L (suc n) (closed t C v)
+      → (v : Float) → value A B limit t (denseOf N L i j) ≡ number v → Sound N L (suc n) (closed t C v)
   place-sound i j inside turn s v e = sound-c s i j inside turn (place-entered reads s i j inside (sym turn) v e)
 
   -- dense Crout's tables stay sound to the end
   pub sound-end : {n y x : ℕ} {ds rs : List Formula} {t t′ : Tables}
-      → Beside N L n y x ds rs → Sound N L n t → worked A B t ds ≡ solved t′ → Sound N L (N * N) t′
-  sound-end {t = t} {t′} done s e = let same : t ≡ t′ = cc (worked-nil A B t) in subst (Sound N L (N * N)) same s
+      → Beside N L n y x ds rs → Sound N L n t → worked A B limit t ds ≡ solved t′ → Sound N L (N * N) t′
+  sound-end {t = t} {t′} done s e = let same : t ≡ t′ = cc (worked-nil A B limit t) in subst (Sound N L (N * N)) same s
   sound-end {t = t} {t′} (on-both i j inside turn h rest) s e =
-      worked-solved (place-targets N L (label N) _ i j) _ A B t t′ _ e (λ v q r. sound-end rest (place-sound i j inside turn s v q) r)
+      worked-solved (place-targets N L (label N) _ i j) _ A B limit t t′ _ e (λ v q r. sound-end rest (place-sound i j inside turn s v q) r)
   sound-end {t = t} {t′} (left-out i j inside turn h rest) s e =
-      worked-solved (place-targets N L (label N) _ i j) _ A B t t′ _ e (λ v q r. sound-end rest (place-sound i j inside turn s v q) r)
+      worked-solved (place-targets N L (label N) _ i j) _ A B limit t t′ _ e (λ v q r. sound-end rest (place-sound i j inside turn s v q) r)
   sound-end {t = t} {t′} (into-y h p rest) s e =
-      worked-solved (forward-targets N L (label N) _ _) _ A B t t′ _ e (λ v q r. sound-end rest (sound-y s (number-good reads s _ q)) r)
+      worked-solved (forward-targets N L (label N) _ _) _ A B limit t t′ _ e (λ v q r. sound-end rest (sound-y s (number-good reads s _ q)) r)
   sound-end {t = t} {t′} (into-x i l p rest) s e =
-      worked-solved (backward-targets N L (label N) _ i) _ A B t t′ _ e (λ v q r. sound-end rest (sound-x s (number-good reads s _ q)) r)
+      worked-solved (backward-targets N L (label N) _ i) _ A B limit t t′ _ e (λ v q r. sound-end rest (sound-x s (number-good reads s _ q)) r)
 
   -- both sides have the same first answer and go on alike
-  both : {f g : Formula} {tb : Table} {k k′ : ℕ} → Targets f tb k → Targets g tb k′ → (t u : Tables) (ds rs : List Formula) → value A B u g ≡ value A B t f
+  both : {f g : Formula} {tb : Table} {k k′ : ℕ} → Targets f tb k → Targets g tb k′ → (t u : Tables) (ds rs : List Formula)
+      → value A B limit u g ≡ value A B limit t f
       → ((r : ℕ) → refused r tb k′ ≡ squeezed N L (refused r tb k))
-      → ((v : Float) → value A B t f ≡ number v → worked A B (closed u tb v) rs ≡ squeezed N L (worked A B (closed t tb v) ds))
-      → worked A B u (g ∷ rs) ≡ squeezed N L (worked A B t (f ∷ ds))
+      → ((v : Float) → value A B limit t f ≡ number v → worked A B limit (closed u tb v) rs ≡ squeezed N L (worked A B limit (closed t tb v) ds))
+      → worked A B limit u (g ∷ rs) ≡ squeezed N L (worked A B limit t (f ∷ ds))
   both {tb = tb} {k} {k′} to to′ t u ds rs e ends go =
-      worked-cons to′ A B u rs
-      ∙ ap (λ a. onward a tb k′ (λ v. worked A B (closed u tb v) rs)) e
+      worked-cons to′ A B limit u rs
+      ∙ ap (λ a. onward a tb k′ (λ v. worked A B limit (closed u tb v) rs)) e
       ∙ onward-same N L _ tb k k′ _ _ ends go
-      ∙ ap (squeezed N L) (sym (worked-cons to A B t ds))
+      ∙ ap (squeezed N L) (sym (worked-cons to A B limit t ds))
 
   module _ (pivots : missing N L ≡ 0) where
     off-diagonal : (i j : ℕ) → Inside N i j → held N L i j ≡ false → i ≡ j → ⊥
@@ -119,19 +120,24 @@ module _ {N : ℕ} {L : Plan} {A B : List Float} (given : Given N L A B) where
         let z : _≡_ {A = ℕ} 0 1 = cc in
         omega arith
 
+    -- a place that isn't held gets +0
+    unheld-nought : {n : ℕ} {t : Tables} → Sound N L n t → (i j : ℕ) → Inside N i j → suc n ≡ label N i j → held N L i j ≡ false
+        → value A B limit t (denseOf N L i j) ≡ number plusZero
+    unheld-nought s i j inside turn h = unheld-value reads s i j inside (sym turn) h ∙ rw (ne-eqb i j (off-diagonal i j inside h))
+
     -- from any point on, the reduced formulas end as dense Crout does
     pub reduction : {n y x : ℕ} {ds rs : List Formula} {t : Tables} → Beside N L n y x ds rs → Sound N L n t
-        → worked A B (shrunk N L t) rs ≡ squeezed N L (worked A B t ds)
+        → worked A B limit (shrunk N L t) rs ≡ squeezed N L (worked A B limit t ds)
     unfolding squeezed
-    reduction {t = t} done s = rw (worked-nil A B t, worked-nil A B (shrunk N L t))
+    reduction {t = t} done s = rw (worked-nil A B limit t, worked-nil A B limit (shrunk N L t))
     reduction {t = t} (on-both i j inside turn h rest) s =
         both (place-targets N L (label N) _ i j) (place-targets N L (slot N L) _ i j) t (shrunk N L t) _ _
         (place-same reads s (pivot-held N L pivots) i j inside)
         (λ r. rw (place-of-label N i j inside))
         (λ v q. rw (← shrunk-held N L i j inside t v (ap suc (s .count) ∙ turn) h) (reduction rest (place-sound i j inside turn s v q)))
     reduction {t = t} (left-out i j inside turn h rest) s =
-        let e : value A B t (denseOf N L i j) ≡ number plusZero = unheld-value reads s i j inside (sym turn) h ∙ rw (ne-eqb i j (off-diagonal i j inside h)) in
-        rw (worked-cons (place-targets N L (label N) _ i j) A B t _, e, ← shrunk-unheld N L i j inside t plusZero (ap suc (s .count) ∙ turn) h)
+        let e = unheld-nought s i j inside turn h in
+        rw (worked-cons (place-targets N L (label N) _ i j) A B limit t _, e, ← shrunk-unheld N L i j inside t plusZero (ap suc (s .count) ∙ turn) h)
         (reduction rest (place-sound i j inside turn s plusZero e))
     reduction {t = t} (into-y h p rest) s =
         both (forward-targets N L (label N) _ _) (forward-targets N L (slot N L) _ _) t (shrunk N L t) _ _
@@ -145,24 +151,25 @@ module _ {N : ℕ} {L : Plan} {A B : List Float} (given : Given N L A B) where
         (λ v q. rw (← shrunk-x N L t v) (reduction rest (sound-x s (number-good reads s _ q))))
 
 -- The headlines: the reduced formulas end as dense Crout does;
-pub reduced-is-dense : {N : ℕ} {L : Plan} {A B : List Float} → Accepted N L A B → worked A B (nothing N) (reducedFormulas N L) ≡ squeezed N L (dense N L A B)
+pub reduced-is-dense : {N : ℕ} {L : Plan} {A B : List Float} {limit : Float} → Accepted N L A B limit
+    → worked A B limit (nothing N) (reducedFormulas N L) ≡ squeezed N L (dense N L A B limit)
 unfolding dense shrunk picked
 reduced-is-dense {N} {L} accepted = reduction (accepted .given) (accepted .pivots) (beside N L) (sound-nothing N L)
 
-module _ {N : ℕ} {L : Plan} {A B : List Float} (given : Given N L A B) where
-  solved-sound : (t : Tables) → dense N L A B ≡ solved t → Sound N L (N * N) t
+module _ {N : ℕ} {L : Plan} {A B : List Float} {limit : Float} (given : Given N L A B limit) where
+  solved-sound : (t : Tables) → dense N L A B limit ≡ solved t → Sound N L (N * N) t
   unfolding dense
   solved-sound t e = sound-end given (beside N L) (sound-nothing N L) e
 
   -- where it ends solved, the tables squeezed are those compressed;
-  pub solved-packed : (t : Tables) → dense N L A B ≡ solved t → shrunk N L t ≡ packed N L t
+  pub solved-packed : (t : Tables) → dense N L A B limit ≡ solved t → shrunk N L t ≡ packed N L t
   solved-packed t e = shrunk-packed N L t (solved-sound t e .count)
 
-  -- and where a pivot is missing, it never ends solved.
-  pub never-solved : (missing N L ≡ 0 → ⊥) → (t : Tables) → dense N L A B ≡ solved t → ⊥
-  unfolding isZero
-  never-solved gap t e =
-      let s = solved-sound t e in
-      let m = missing-free N L gap in
-      let inside : Inside N (missing N L) (missing N L) = omega arith in
-      true≢false (rw (s .unheld _ _ inside (m .free)) at (s .pivot _ (m .low) (m .high) (label-range N _ _ inside .1)))
+-- and where a pivot is missing, it never ends solved.
+pub never-solved : (N : ℕ) (L : Plan) (A B : List Float) (limit : Float) → NeverSolved N L A B limit
+unfolding isZero
+never-solved N L A B limit given gap t e =
+    let s = solved-sound given t e in
+    let m = missing-free N L gap in
+    let inside : Inside N (missing N L) (missing N L) = omega arith in
+    true≢false (rw (s .unheld _ _ inside (m .free)) at (s .pivot _ (m .low) (m .high) (label-range N _ _ inside .1)))

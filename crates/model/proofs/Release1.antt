@@ -1,5 +1,5 @@
--- The runner of `specs/` is release 1's: for every input it checks, runs, answers and leaves as `specs/Release1`, here R, says. And what a program that
--- release 1 accepts may count on.
+-- The runner of `specs/` is release 1's: for every input, and with limit +0, it checks, runs, answers and leaves as `specs/Release1`, here R, says.
+-- And what a program that release 1 accepts may count on.
 use Prim.Native.Nat.{ℕ, zero, suc}
 use mathlib.Core.Path.{_≡_, refl, sym, ap, ap₂, _∙_}
 use mathlib.Core.Bool.{Bool, true, false, cond, true≢false}
@@ -7,9 +7,10 @@ use mathlib.Core.List.{List, [], _∷_, List·Memᴰ·head, List·Memᴰ·tail}
 use lib.Dec.{eqb}
 use lib.ListN.{length}
 use borrow.Author.Tests.{eq-eqb}
-use lib.Ieee.{Float, nan, inf, fin}
+use lib.Ieee.{Float, nan, inf, fin, le, lt, eq}
 use Rattle.model.specs.Release1 as R
-use Rattle.model.specs.Arith.{Answer, number, overflow, zeroDivisor, clean, settled, isZero, isFinite, product, difference, quotient, next}
+use Rattle.model.specs.Arith.{plusZero, Answer, number, overflow, zeroDivisor, clean, settled, isZero, isFinite, isLimit, next}
+use Rattle.model.specs.Arith.{product, difference, quotient}
 use Rattle.model.specs.Formula.{Table, C, Y, X, numberOf, Tables, entry, closed, starting, less}
 use Rattle.model.specs.Label.{isOrder}
 use Rattle.model.specs.Fill.{Plan, missing}
@@ -18,9 +19,10 @@ use Rattle.model.specs.Compile.{judged, good}
 use Rattle.model.specs.Check.{word, nextOf, Chain, whole, broken, before, chainAfter, chain, Open, idle, busy, Progress, Verdict, fine, refusal}
 use Rattle.model.specs.Check.{Kind, opens, subtracts, divides, closes, closesPivot, none, kindOf}
 use Rattle.model.specs.Check.{formed, inOrder, inTurn, counted, onward, isIdle, complete, checkLinks, check}
-use Rattle.model.specs.Run.{State, Stepped, going, stop, closing, settledStep, step, Outcome, solution, stopped, refusedBy, follow, notFinite, ran}
-use Rattle.model.specs.Run.{Reply, solves, stops, refuses, reply, leaves}
+use Rattle.model.specs.Run.{State, Stepped, going, stop, closing, settledStep, step, Outcome, solution, stopped, refusedBy, follow, followed}
+use Rattle.model.specs.Run.{notFinite, checkValues, ran, Reply, solves, stops, refuses, reply, leaves}
 use Rattle.model.proofs.Lists.{Each}
+use Rattle.model.proofs.Arith.{small-zero}
 use Rattle.model.proofs.Runs.{ran-is, ranBy, gated, lengthsRight}
 use Rattle.model.proofs.Following.{ended, follows}
 use Rattle.model.proofs.Checked.{program-fine}
@@ -286,7 +288,7 @@ stepped-frozen R.overflow f = refl
 stepped-frozen R.zeroDivisor f = refl
 
 module _ (A B : List Float) where
-  step-frozen : (z : R.State) (k : R.Kind) (p q : ℕ) → steppedNow (R.step A B z k p q) ≡ step A B (stateNow z) (kindNow k) p q
+  step-frozen : (z : R.State) (k : R.Kind) (p q : ℕ) → steppedNow (R.step A B z k p q) ≡ step A B plusZero (stateNow z) (kindNow k) p q
   unfolding R.step R.opened R.worked step starting
   step-frozen z (R.opens R.C) p q = rw clean-frozen
   step-frozen z (R.opens R.Y) p q = rw clean-frozen
@@ -294,19 +296,19 @@ module _ (A B : List Float) where
   step-frozen z (R.subtracts t) p q = stepped-frozen _ _ ∙ simp (less-frozen, entry-frozen)
   step-frozen z R.divides p q = stepped-frozen _ _ ∙ rw (over-frozen, entry-frozen)
   step-frozen z R.closes p q = rw taken-frozen
-  step-frozen z R.closesPivot p q = rw (zero-frozen, cond-map steppedNow, taken-frozen)
+  step-frozen z R.closesPivot p q = rw (small-zero, zero-frozen, cond-map steppedNow, taken-frozen)
   step-frozen z R.none p q = refl
 
-  follow-frozen : (z : R.State) (c : R.Chain) → outcomeNow (R.follow A B z c) ≡ follow A B (stateNow z) (chainNow c .links)
-  unfolding R.follow follow
+  follow-frozen : (z : R.State) (c : R.Chain) → outcomeNow (R.follow A B z c) ≡ followed (follow A B plusZero (stateNow z) (chainNow c .links))
+  unfolding R.follow follow followed
   follow-frozen z (R.link index k p q c) = by (R.step A B z (R.kindOf k) p q) refl (λ z′. follow-frozen z′ c)
     where
       by : (a : R.Answer R.State) → R.step A B z (R.kindOf k) p q ≡ a
-          → ((z′ : R.State) → outcomeNow (R.follow A B z′ c) ≡ follow A B (stateNow z′) (chainNow c .links))
-          → outcomeNow (R.follow A B z (R.link index k p q c)) ≡ follow A B (stateNow z) (chainNow (R.link index k p q c) .links)
-      by (R.gives z′) e rest = rw (R.follow, follow, ← kind-frozen k, ← step-frozen, e) (rest z′)
-      by R.overflow e rest = rw (R.follow, follow, ← kind-frozen k, ← step-frozen, e)
-      by R.zeroDivisor e rest = rw (R.follow, follow, ← kind-frozen k, ← step-frozen, e)
+          → ((z′ : R.State) → outcomeNow (R.follow A B z′ c) ≡ followed (follow A B plusZero (stateNow z′) (chainNow c .links)))
+          → outcomeNow (R.follow A B z (R.link index k p q c)) ≡ followed (follow A B plusZero (stateNow z) (chainNow (R.link index k p q c) .links))
+      by (R.gives z′) e rest = rw (R.follow, followed, follow, ← kind-frozen k, ← step-frozen, e) (rest z′)
+      by R.overflow e rest = rw (R.follow, followed, follow, ← kind-frozen k, ← step-frozen, e)
+      by R.zeroDivisor e rest = rw (R.follow, followed, follow, ← kind-frozen k, ← step-frozen, e)
   follow-frozen z R.whole = refl
   follow-frozen z (R.broken k) = refl
 
@@ -315,10 +317,25 @@ unfolding R.notFinite notFinite
 not-finite-frozen k [] = refl
 not-finite-frozen k (v ∷ vs) = rw (finite-frozen, not-finite-frozen (suc k) vs)
 
--- the run is release 1's
-pub ran-frozen : (W : List ℕ) (A B : List Float) (lc ly lx : ℕ) → outcomeNow (R.ran W A B lc ly lx) ≡ ran W A B lc ly lx
+-- 15 is release 1's, and 21 refuses nothing where the limit is +0
+abbrev fifteen : List Float → List Float → R.Verdict
+fifteen A B = R.required (eqb (R.notFinite 1 A) 0) 15 (R.notFinite 1 A) (R.required (eqb (R.notFinite 1 B) 0) 15 (R.notFinite 1 B) R.fine)
+
+values-frozen : (A B : List Float) → verdictNow (fifteen A B) ≡ checkValues A B plusZero
+unfolding checkValues isLimit isFinite le lt eq
+values-frozen A B =
+    rw (not-finite-frozen 1 A, not-finite-frozen 1 B)
+    (required-frozen verdictNow 15 (notFinite 1 A) _ refl (required-frozen verdictNow 15 (notFinite 1 B) R.fine refl refl))
+
+after-frozen : (v : R.Verdict) (o : R.Outcome) {now : Outcome} → outcomeNow o ≡ now
+    → outcomeNow (R.after v o) ≡ elim (verdictNow v) [ refusal r d ↦ refusedBy r d | fine ↦ now ]
+after-frozen R.fine o e = e
+after-frozen (R.refusal r d) o e = refl
+
+-- with limit +0 the run is release 1's
+pub ran-frozen : (W : List ℕ) (A B : List Float) (lc ly lx : ℕ) → outcomeNow (R.ran W A B lc ly lx) ≡ ran W A B plusZero lc ly lx
 unfolding R.ran R.checkValues ranBy gated lengthsRight
-ran-frozen W A B lc ly lx = by (R.check W) ∙ ap (ranBy W A B lc ly lx) (check-frozen W) ∙ sym (ran-is W A B lc ly lx)
+ran-frozen W A B lc ly lx = by (R.check W) ∙ ap (ranBy W A B plusZero lc ly lx) (check-frozen W) ∙ sym (ran-is W A B plusZero lc ly lx)
   where
     done : R.Outcome
     done = R.follow A B (R.fresh (R.word W 0)) (R.chain W)
@@ -327,10 +344,11 @@ ran-frozen W A B lc ly lx = by (R.check W) ∙ ap (ranBy W A B lc ly lx) (check-
     values v = outcomeNow (R.after v done)
 
     by : (v : R.Verdict)
-        → outcomeNow (R.after v (R.after (R.checkValues (R.word W 0) (R.word W 1) (R.word W 2) A B lc ly lx) done)) ≡ ranBy W A B lc ly lx (verdictNow v)
-    by R.fine = rw (not-finite-frozen 1 A, not-finite-frozen 1 B)
-        (required-frozen values 14 0 _ refl (required-frozen values 15 (notFinite 1 A) _ refl (required-frozen values 15 (notFinite 1 B) R.fine refl
-        (rw (← chain-frozen W) (follow-frozen A B _ (R.chain W))))))
+        → outcomeNow (R.after v (R.after (R.checkValues (R.word W 0) (R.word W 1) (R.word W 2) A B lc ly lx) done))
+        ≡ ranBy W A B plusZero lc ly lx (verdictNow v)
+    by R.fine =
+        required-frozen values 14 0 _ refl
+        (rw (← values-frozen A B) (after-frozen (fifteen A B) done (rw (← chain-frozen W) (follow-frozen A B _ (R.chain W)))))
     by (R.refusal r d) = refl
 
 -- and so are what the caller is told and what is left

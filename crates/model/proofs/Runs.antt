@@ -1,71 +1,98 @@
--- A run by its checks: where 7 to 15 refuse nothing, it is what following the chain gives.
+-- A run by its checks: where 7 to 15 and 21 refuse nothing, it is what its records give.
 use Prim.Native.Nat.{ℕ}
 use mathlib.Core.Path.{_≡_, refl, ap, ap₂, _∙_}
 use mathlib.Core.Bool.{Bool, true, false, _&&_, and-eq-true-iff}
 use mathlib.Core.List.{List}
-use borrow.Author.Tests.{eq-eqb, eqb-true}
+use borrow.Author.Tests.{eq-eqb, ne-eqb, eqb-true, eqb-false}
 use lib.Dec.{eqb}
 use lib.ListN.{length}
 use lib.Ieee.{Float}
 use Rattle.model.specs.Check.{Verdict, fine, refusal, check, chain, word}
-use Rattle.model.specs.Run.{Outcome, refusedBy, notFinite, fresh, follow, ran}
+use Rattle.model.specs.Arith.{isLimit}
+use Rattle.model.specs.Run.{Outcome, refusedBy, notFinite, checkValues, fresh, follow, followed, ran}
+use Rattle.model.proofs.Passing.{refused-fine}
 
--- ---- 14 and 15, whatever they lead to
+-- ---- 14, and then 15 and 21, whatever they lead to
 
-module _ {S : Type 0} (lengths : S) (value : ℕ → S) where
-  -- by 14's test and the tests of the first values of A and of B that aren't finite
-  gate : Bool → Bool → Bool → ℕ → ℕ → S → S
-  gate right p q a b done = elim right [ false ↦ lengths | true ↦ elim p [ false ↦ value a | true ↦ elim q [ false ↦ value b | true ↦ done ] ] ]
-
-  unfoldable pub gated : Bool → ℕ → ℕ → S → S
-  unfolding gate
-  gated right a b done = gate right (eqb a 0) (eqb b 0) a b done
-
-  gate-same : (right p q : Bool) (a b : ℕ) (done done′ : S) → (right ≡ true → p ≡ true → q ≡ true → done ≡ done′)
-      → gate right p q a b done ≡ gate right p q a b done′
-  unfolding gate
-  gate-same false p q a b done done′ same = refl
-  gate-same true false q a b done done′ same = refl
-  gate-same true true false a b done done′ same = refl
-  gate-same true true true a b done done′ same = same refl refl refl
+module _ {S : Type 0} (lengths : S) (value : ℕ → ℕ → S) where
+  -- by 14's test, and by the verdict of 15 and 21
+  unfoldable pub gated : Bool → Verdict → S → S
+  gated right v done = elim right [ false ↦ lengths | true ↦ elim v [ refusal r d ↦ value r d | fine ↦ done ] ]
 
   -- what comes after the checks counts only where they refuse nothing
-  pub gated-same : (right : Bool) (a b : ℕ) (done done′ : S) → (right ≡ true → a ≡ 0 → b ≡ 0 → done ≡ done′) → gated right a b done ≡ gated right a b done′
+  pub gated-same : (right : Bool) (v : Verdict) (done done′ : S) → (right ≡ true → v ≡ fine → done ≡ done′) → gated right v done ≡ gated right v done′
   unfolding gated
-  gated-same right a b done done′ same = gate-same right (eqb a 0) (eqb b 0) a b done done′ (λ r p q. same r (eqb-true a 0 p) (eqb-true b 0 q))
-
-  gate-each : (P : S → Type 0) (right p q : Bool) (a b : ℕ) (done : S) → P lengths → P (value a) → P (value b) → P done → P (gate right p q a b done)
-  unfolding gate
-  gate-each P false p q a b done l va vb d = l
-  gate-each P true false q a b done l va vb d = va
-  gate-each P true true false a b done l va vb d = vb
-  gate-each P true true true a b done l va vb d = d
+  gated-same false v done done′ same = refl
+  gated-same true (refusal r d) done done′ same = refl
+  gated-same true fine done done′ same = same refl refl
 
   -- what holds of each case holds
-  pub gated-each : (P : S → Type 0) (right : Bool) (a b : ℕ) (done : S) → P lengths → P (value a) → P (value b) → P done → P (gated right a b done)
+  pub gated-each : (P : S → Type 0) (right : Bool) (v : Verdict) (done : S) → P lengths → ((r d : ℕ) → v ≡ refusal r d → P (value r d)) → P done
+      → P (gated right v done)
   unfolding gated
-  gated-each P right a b done = gate-each P right (eqb a 0) (eqb b 0) a b done
+  gated-each P false v done l w d = l
+  gated-each P true (refusal r k) done l w d = w r k refl
+  gated-each P true fine done l w d = d
 
-  gate-open : (a b : ℕ) (done : S) → gate true true true a b done ≡ done
-  unfolding gate
-  gate-open a b done = refl
-
-  -- and where they do, it is all
-  pub gated-open : (right : Bool) (a b : ℕ) (done : S) → right ≡ true → a ≡ 0 → b ≡ 0 → gated right a b done ≡ done
+  -- and where they refuse nothing, it is all
+  pub gated-open : (right : Bool) (v : Verdict) (done : S) → right ≡ true → v ≡ fine → gated right v done ≡ done
   unfolding gated
-  gated-open right a b done r ea eb = rw (r, eq-eqb a 0 ea, eq-eqb b 0 eb) (gate-open a b done)
+  gated-open right v done r e = rw (r, e)
 
-module _ {S T : Type 0} (f : S → T) (lengths : S) (value : ℕ → S) where
-  gate-map : (right p q : Bool) (a b : ℕ) (done : S) → f (gate lengths value right p q a b done) ≡ gate (f lengths) (λ k. f (value k)) right p q a b (f done)
-  unfolding gate
-  gate-map false p q a b done = refl
-  gate-map true false q a b done = refl
-  gate-map true true false a b done = refl
-  gate-map true true true a b done = refl
+pub gated-map : {S T : Type 0} (f : S → T) (lengths : S) (value : ℕ → ℕ → S) (right : Bool) (v : Verdict) (done : S)
+    → f (gated lengths value right v done) ≡ gated (f lengths) (λ r d. f (value r d)) right v (f done)
+unfolding gated
+gated-map f lengths value false v done = refl
+gated-map f lengths value true (refusal r d) done = refl
+gated-map f lengths value true fine done = refl
 
-  pub gated-map : (right : Bool) (a b : ℕ) (done : S) → f (gated lengths value right a b done) ≡ gated (f lengths) (λ k. f (value k)) right a b (f done)
-  unfolding gated
-  gated-map right a b done = gate-map right (eqb a 0) (eqb b 0) a b done
+-- ---- 15 and 21
+
+-- finite values and a limit
+pub record Finite (A B : List Float) (limit : Float) : Type 0 where
+  pub finiteA : notFinite 1 A ≡ 0
+  pub finiteB : notFinite 1 B ≡ 0
+  pub limited : isLimit limit ≡ true
+
+module _ (A B : List Float) (limit : Float) where
+  -- what holds in each case of 15 and 21 holds
+  pub values-each : (P : Verdict → Type 0) → ((notFinite 1 A ≡ 0 → ⊥) → P (refusal 15 (notFinite 1 A)))
+      → (notFinite 1 A ≡ 0 → (notFinite 1 B ≡ 0 → ⊥) → P (refusal 15 (notFinite 1 B)))
+      → (notFinite 1 A ≡ 0 → notFinite 1 B ≡ 0 → isLimit limit ≡ false → P (refusal 21 0)) → (Finite A B limit → P fine) → P (checkValues A B limit)
+  unfolding checkValues
+  values-each P a b l none = go (eqb (notFinite 1 A) 0) (eqb (notFinite 1 B) 0) (isLimit limit) refl refl refl
+    where
+      go : (p q r : Bool) → eqb (notFinite 1 A) 0 ≡ p → eqb (notFinite 1 B) 0 ≡ q → isLimit limit ≡ r
+          → P (elim p as (λ p. Verdict) [
+            | false ↦ refusal 15 (notFinite 1 A)
+            | true ↦ elim q as (λ q. Verdict) [ false ↦ refusal 15 (notFinite 1 B) | true ↦ elim r as (λ r. Verdict) [ false ↦ refusal 21 0 | true ↦ fine ] ]
+          ])
+      go false q r e f g = a (eqb-false _ 0 e)
+      go true false r e f g = b (eqb-true _ 0 e) (eqb-false _ 0 f)
+      go true true false e f g = l (eqb-true _ 0 e) (eqb-true _ 0 f) g
+      go true true true e f g = none (record { finiteA = eqb-true _ 0 e; finiteB = eqb-true _ 0 f; limited = g })
+
+  -- each case by itself; finite values and a limit pass, and what passes is that
+  pub values-in-a : (notFinite 1 A ≡ 0 → ⊥) → checkValues A B limit ≡ refusal 15 (notFinite 1 A)
+  unfolding checkValues
+  values-in-a a = rw (checkValues, ne-eqb (notFinite 1 A) 0 a)
+
+  pub values-in-b : notFinite 1 A ≡ 0 → (notFinite 1 B ≡ 0 → ⊥) → checkValues A B limit ≡ refusal 15 (notFinite 1 B)
+  unfolding checkValues
+  values-in-b a b = rw (checkValues, eq-eqb (notFinite 1 A) 0 a, ne-eqb (notFinite 1 B) 0 b)
+
+  pub values-limit : notFinite 1 A ≡ 0 → notFinite 1 B ≡ 0 → isLimit limit ≡ false → checkValues A B limit ≡ refusal 21 0
+  unfolding checkValues
+  values-limit a b l = rw (checkValues, eq-eqb (notFinite 1 A) 0 a, eq-eqb (notFinite 1 B) 0 b, l)
+
+  pub finite-fine : Finite A B limit → checkValues A B limit ≡ fine
+  unfolding checkValues
+  finite-fine f = rw (checkValues, eq-eqb (notFinite 1 A) 0 (f .finiteA), eq-eqb (notFinite 1 B) 0 (f .finiteB), f .limited)
+
+  pub fine-finite : checkValues A B limit ≡ fine → Finite A B limit
+  fine-finite =
+      values-each (λ v. v ≡ fine → Finite A B limit) (λ a e. absurd (refused-fine _ _ e)) (λ a b e. absurd (refused-fine _ _ e))
+      (λ a b l e. absurd (refused-fine _ _ e)) (λ f e. f)
 
 -- ---- the run
 
@@ -84,21 +111,21 @@ right-lengths N n s a b c y x e =
     let first = and-eq-true-iff (eqb a n) _ .0 e in
     (eqb-true a n (first .0), eqb-true b N (and-eq-true-iff (eqb b N) _ .0 (first .1) .0))
 
-module _ (W : List ℕ) (A B : List Float) (c y x : ℕ) where
-  -- a run by the verdict of 7 to 13, and then by 14 and 15
+module _ (W : List ℕ) (A B : List Float) (limit : Float) (c y x : ℕ) where
+  -- a run by the verdict of 7 to 13, and then by 14, 15 and 21
   unfoldable pub ranBy : Verdict → Outcome
   ranBy v = elim v [
     | refusal r d ↦ refusedBy r d
-    | fine ↦ gated (refusedBy 14 0) (refusedBy 15) (lengthsRight (word W 0) (word W 1) (word W 2) (length A) (length B) c y x) (notFinite 1 A) (notFinite 1 B)
-        (follow A B (fresh (word W 0)) (chain W .links))
+    | fine ↦ gated (refusedBy 14 0) refusedBy (lengthsRight (word W 0) (word W 1) (word W 2) (length A) (length B) c y x) (checkValues A B limit)
+        (followed (follow A B limit (fresh (word W 0)) (chain W .links)))
   ]
 
-  pub ran-is : ran W A B c y x ≡ ranBy (check W)
+  pub ran-is : ran W A B limit c y x ≡ ranBy (check W)
   unfolding ran ranBy gated lengthsRight
   ran-is = refl
 
-  pub ran-fine : check W ≡ fine → ran W A B c y x
-      ≡ gated (refusedBy 14 0) (refusedBy 15) (lengthsRight (word W 0) (word W 1) (word W 2) (length A) (length B) c y x) (notFinite 1 A) (notFinite 1 B)
-      (follow A B (fresh (word W 0)) (chain W .links))
+  pub ran-fine : check W ≡ fine → ran W A B limit c y x
+      ≡ gated (refusedBy 14 0) refusedBy (lengthsRight (word W 0) (word W 1) (word W 2) (length A) (length B) c y x) (checkValues A B limit)
+      (followed (follow A B limit (fresh (word W 0)) (chain W .links)))
   unfolding ranBy
   ran-fine e = ran-is ∙ ap ranBy e

@@ -1,6 +1,6 @@
--- Refusals are small: a number of at most 20 and a detail that is at most a record count, a length or a number of records, so both fit one 64-bit number.
+-- Refusals are small: a number of at most 30 and a detail that is at most a record count, a length or a number of records, so both fit one 64-bit number.
 use Prim.Native.Nat.{ℕ, zero, suc, _+_, _*_, _/_, _%_, _≤_}
-use mathlib.Core.Path.{_≡_, refl}
+use mathlib.Core.Path.{_≡_, refl, sym}
 use mathlib.Core.Bool.{Bool, true, false, cond, _&&_}
 use mathlib.Core.List.{List, [], _∷_}
 use native.Mathlib.Omega.{arith}
@@ -15,10 +15,11 @@ use Rattle.model.specs.Check as Check
 use Rattle.model.specs.Check.{Link, Kind, opens, subtracts, divides, closes, closesPivot, none, Progress, Verdict, fine}
 use Rattle.model.specs.Check.{End, whole, broken, Chain, chainAfter, chain, nextOf, recordAt, before}
 use Rattle.model.specs.Check.{kindOf, formed, inOrder, inTurn, onward, complete, checkLinks, check, begun, word}
-use Rattle.model.specs.Arith.{Answer, number, overflow, zeroDivisor, quotient, isZero, isFinite}
+use Rattle.model.specs.Arith.{Answer, number, overflow, zeroDivisor, quotient, isFinite, isSmall}
 use Rattle.model.specs.Formula.{C, Y, X, entry, less}
-use Rattle.model.specs.Run.{State, Outcome, stopped, refusedBy, fresh, Stepped, going, stop, closing, subtracted, dividedBy, settledStep}
-use Rattle.model.specs.Run.{step, follow, notFinite, ran, Reply, solves, stops, refuses, reply}
+use Rattle.model.specs.Run.{State, refusedBy, fresh, Stepped, going, stop, closing, subtracted, dividedBy, settledStep, step}
+use Rattle.model.specs.Run.{Followed, through, halted, follow, followed, notFinite, checkValues, ran}
+use Rattle.model.specs.Run.{Reply, solves, stops, refuses, reply}
 use Rattle.model.specs.Compile as Compile
 use Rattle.model.specs.Compile.{Compiled, written, Labels, good, bad, judged, compiles}
 use Rattle.model.specs.Program.{compiled}
@@ -29,13 +30,14 @@ use Rattle.model.proofs.Bytes.{words-length}
 use Rattle.model.proofs.Within.{within-range}
 use Rattle.model.proofs.Plans.{missing-free}
 use Rattle.model.proofs.Compiles.{compilesBy, compiles-is, compiles-success}
-use Rattle.model.proofs.Runs.{gated-each, lengthsRight, ranBy, ran-is}
+use Rattle.model.proofs.Passing.{refused-fine}
+use Rattle.model.proofs.Runs.{gated-each, values-each, lengthsRight, ranBy, ran-is}
 use Rattle.model.proofs.Counts.{words-counted}
 use Rattle.model.proofs.Bounds.{records-at-most}
 
--- a refusal's number is at most 20 and its detail at most b
+-- a refusal's number is at most 30 and its detail at most b
 abbrev pub Small : ℕ → ℕ → ℕ → Type 0
-Small b r d = (r ≤ 20) × (d ≤ b)
+Small b r d = (r ≤ 30) × (d ≤ b)
 
 -- ---- checks 7 to 13, and 18
 
@@ -217,39 +219,48 @@ SmallReply b (refuses r d) = Small b r d
 
 abbrev SmallStep : Stepped → Type 0
 SmallStep (going z) = Unit {0}
-SmallStep (stop r) = r ≤ 20
+SmallStep (stop r) = r ≤ 30
 
 settled-small : (a : Answer) (f : Float → State) → SmallStep (settledStep a f)
 settled-small (number v) f = tt
 settled-small overflow f = omega arith
 settled-small zeroDivisor f = omega arith
 
-step-small : (A B : List Float) (z : State) (k : Kind) (p q : ℕ) → SmallStep (step A B z k p q)
+step-small : (A B : List Float) (limit : Float) (z : State) (k : Kind) (p q : ℕ) → SmallStep (step A B limit z k p q)
 unfolding step
-step-small A B z (opens C) p q = tt
-step-small A B z (opens Y) p q = tt
-step-small A B z (opens X) p q = tt
-step-small A B z (subtracts t) p q = settled-small (less (z .running) (entry (z .tables) C p) (entry (z .tables) t q)) (subtracted z)
-step-small A B z divides p q = settled-small (quotient (z .running) (entry (z .tables) C p)) (dividedBy z)
-step-small A B z closes p q = tt
-step-small A B z closesPivot p q = test (isZero (z .running))
+step-small A B limit z (opens C) p q = tt
+step-small A B limit z (opens Y) p q = tt
+step-small A B limit z (opens X) p q = tt
+step-small A B limit z (subtracts t) p q = settled-small (less (z .running) (entry (z .tables) C p) (entry (z .tables) t q)) (subtracted z)
+step-small A B limit z divides p q = settled-small (quotient (z .running) (entry (z .tables) C p)) (dividedBy z)
+step-small A B limit z closes p q = tt
+step-small A B limit z closesPivot p q = test (isSmall limit (z .running))
   where
     test : (b : Bool) → SmallStep (cond b (stop 17) (going (closing z)))
     test true = omega arith
     test false = tt
-step-small A B z none p q = tt
+step-small A B limit z none p q = tt
 
-follow-small : (b : ℕ) (A B : List Float) (z : State) (ls : List Link) → LinksUpTo b ls → SmallReply b (reply (follow A B z ls))
-unfolding follow reply
-follow-small b A B z [] up = tt
-follow-small b A B z (l ∷ ls) up =
-    go (step A B z (kindOf (l .at .kind)) (l .at .p) (l .at .q)) (step-small A B z (kindOf (l .at .kind)) (l .at .p) (l .at .q))
-    (λ y. follow-small b A B y ls (up .1))
+abbrev SmallFollowed : ℕ → Followed → Type 0
+SmallFollowed b (through z) = Unit {0}
+SmallFollowed b (halted r index t k) = Small b r index
+
+follow-small : (b : ℕ) (A B : List Float) (limit : Float) (z : State) (ls : List Link) → LinksUpTo b ls → SmallFollowed b (follow A B limit z ls)
+unfolding follow
+follow-small b A B limit z [] up = tt
+follow-small b A B limit z (l ∷ ls) up =
+    go (step A B limit z (kindOf (l .at .kind)) (l .at .p) (l .at .q)) (step-small A B limit z (kindOf (l .at .kind)) (l .at .p) (l .at .q))
+    (λ y. follow-small b A B limit y ls (up .1))
   where
-    go : (s : Stepped) → SmallStep s → ((y : State) → SmallReply b (reply (follow A B y ls)))
-        → SmallReply b (reply (elim s as (λ s. Outcome) [ going y ↦ follow A B y ls | stop r ↦ stopped r (l .index) (z .table) (z .target) ]))
+    go : (s : Stepped) → SmallStep s → ((y : State) → SmallFollowed b (follow A B limit y ls))
+        → SmallFollowed b (elim s as (λ s. Followed) [ going y ↦ follow A B limit y ls | stop r ↦ halted r (l .index) (z .table) (z .target) ])
     go (going y) small rest = rest y
     go (stop r) small rest = omega arith
+
+followed-small : (b : ℕ) (f : Followed) → SmallFollowed b f → SmallReply b (reply (followed f))
+unfolding followed reply
+followed-small b (through z) h = tt
+followed-small b (halted r index t k) h = h
 
 -- the position of a value that isn't finite is one of its list's
 not-finite-small : (k : ℕ) (vs : List Float) → notFinite k vs ≤ k + length vs
@@ -261,9 +272,21 @@ not-finite-small k (v ∷ vs) = go (isFinite v) (not-finite-small (suc k) vs)
     go true h = omega arith
     go false h = omega arith
 
-pub ran-small : (W : List ℕ) (A B : List Float) (c y x : ℕ) → SmallReply (1 + length W + length A + length B) (reply (ran W A B c y x))
+-- the detail of 15 is one of these, that of 21 is 0
+values-small : (A B : List Float) (limit : Float) (r d : ℕ) → checkValues A B limit ≡ Check.refusal r d → Small (1 + length A + length B) r d
+values-small A B limit r d =
+    values-each A B limit (λ v. v ≡ Check.refusal r d → Small (1 + length A + length B) r d)
+    (λ a. at 15 (notFinite 1 A) (omega (arith, not-finite-small 1 A)))
+    (λ a b. at 15 (notFinite 1 B) (omega (arith, not-finite-small 1 B)))
+    (λ a b l. at 21 0 (omega arith))
+    (λ f e. absurd (refused-fine r d (sym e)))
+  where
+    at : (n k : ℕ) → Small (1 + length A + length B) n k → Check.refusal n k ≡ Check.refusal r d → Small (1 + length A + length B) r d
+    at n k small e = let same : n ≡ r = cc in let same-detail : k ≡ d = cc in omega arith
+
+pub ran-small : (W : List ℕ) (A B : List Float) (limit : Float) (c y x : ℕ) → SmallReply (1 + length W + length A + length B) (reply (ran W A B limit c y x))
 unfolding ranBy reply chain
-ran-small W A B c y x = rw (ran-is W A B c y x) (go (check W) (check-small W))
+ran-small W A B limit c y x = rw (ran-is W A B limit c y x) (go (check W) (check-small W))
   where
     wider : (r : Reply) → SmallReply (length W / 4) r → SmallReply (1 + length W + length A + length B) r
     wider (solves p q) s = tt
@@ -273,21 +296,23 @@ ran-small W A B c y x = rw (ran-is W A B c y x) (go (check W) (check-small W))
     up : LinksUpTo (length W / 4) (chain W .links)
     up = chain-up-to (length W / 4) W 0 (omega arith) .0
 
-    go : (v : Verdict) → SmallVerdict (length W / 4) v → SmallReply (1 + length W + length A + length B) (reply (ranBy W A B c y x v))
+    done : SmallReply (length W / 4) (reply (followed (follow A B limit (fresh (word W 0)) (chain W .links))))
+    done = followed-small (length W / 4) _ (follow-small (length W / 4) A B limit (fresh (word W 0)) (chain W .links) up)
+
+    go : (v : Verdict) → SmallVerdict (length W / 4) v → SmallReply (1 + length W + length A + length B) (reply (ranBy W A B limit c y x v))
     go (Check.refusal r d) s = omega arith
     go fine s =
-        gated-each (refusedBy 14 0) (refusedBy 15) (λ o. SmallReply (1 + length W + length A + length B) (reply o))
-        (lengthsRight (word W 0) (word W 1) (word W 2) (length A) (length B) c y x) (notFinite 1 A) (notFinite 1 B)
-        (follow A B (fresh (word W 0)) (chain W .links)) (omega arith)
-        (omega (arith, not-finite-small 1 A)) (omega (arith, not-finite-small 1 B))
-        (wider (reply (follow A B (fresh (word W 0)) (chain W .links))) (follow-small (length W / 4) A B (fresh (word W 0)) (chain W .links) up))
+        gated-each (refusedBy 14 0) refusedBy (λ o. SmallReply (1 + length W + length A + length B) (reply o))
+        (lengthsRight (word W 0) (word W 1) (word W 2) (length A) (length B) c y x) (checkValues A B limit)
+        (followed (follow A B limit (fresh (word W 0)) (chain W .links))) (omega arith) (λ r d e. omega (arith, values-small A B limit r d e))
+        (wider (reply (followed (follow A B limit (fresh (word W 0)) (chain W .links)))) done)
 
 -- ---- compiling and running
 
-pub replied-small : (N : ℕ) (L : Plan) (A B : List Float) (work words c y x : ℕ)
-    → SmallReply (400000001 + length L + length A + length B) (replied N L A B work words c y x)
+pub replied-small : (N : ℕ) (L : Plan) (A B : List Float) (limit : Float) (work words c y x : ℕ)
+    → SmallReply (400000001 + length L + length A + length B) (replied N L A B limit work words c y x)
 unfolding replied
-replied-small N L A B work words c y x = go (compiles N L work words) refl (compiles-small N L work words)
+replied-small N L A B limit work words c y x = go (compiles N L work words) refl (compiles-small N L work words)
   where
     wider : (r : Reply) (k : ℕ) → k ≤ 400000000 → SmallReply (1 + k + length A + length B) r → SmallReply (400000001 + length L + length A + length B) r
     wider (solves p q) k h s = tt
@@ -296,9 +321,9 @@ replied-small N L A B work words c y x = go (compiles N L work words) refl (comp
 
     go : (v : Compiled) → compiles N L work words ≡ v → SmallCompiled (100000000 + length L) v
         → SmallReply (400000001 + length L + length A + length B)
-        (elim v as (λ v. Reply) [ Compile.refusal r d ↦ refuses r d | written s p r ↦ reply (ran (compiled N L) A B c y x) ])
+        (elim v as (λ v. Reply) [ Compile.refusal r d ↦ refuses r d | written s p r ↦ reply (ran (compiled N L) A B limit c y x) ])
     go (Compile.refusal r d) e small = omega arith
     go (written s p r) e small =
         let k = compiles-success N L work words s p r e in
         let few : length (compiled N L) ≤ 400000000 = omega (arith, words-counted N L (k .pivots), records-at-most N L (within-range N 600 (k .order) .1)) in
-        wider (reply (ran (compiled N L) A B c y x)) (length (compiled N L)) few (ran-small (compiled N L) A B c y x)
+        wider (reply (ran (compiled N L) A B limit c y x)) (length (compiled N L)) few (ran-small (compiled N L) A B limit c y x)

@@ -12,11 +12,12 @@ use Rattle.model.specs.Formula.{Table, C, Y, X}
 use Rattle.model.specs.Crout.{dense}
 use Rattle.model.specs.Compile.{Compiled, written, refusal, compiles, wordsAfter}
 use Rattle.model.specs.Program.{compiled}
-use Rattle.model.specs.Run.{Outcome, solution, stopped, refusedBy, notFinite, ran, Reply, refuses, reply, leaves}
+use Rattle.model.specs.Check.{fine}
+use Rattle.model.specs.Run.{Outcome, solution, stopped, refusedBy, checkValues, ran, Reply, refuses, reply, leaves}
 use Rattle.model.specs.Agreement.{Values, Accepted, Seen, early, seen, compressed}
 use Rattle.model.specs.Solve.{solving, told, tellsOf, replied, leftIn}
 use Rattle.model.proofs.Compiles.{compiles-success}
-use Rattle.model.proofs.Runs.{gated, gated-same, gated-map, lengthsRight, right-lengths, ran-fine}
+use Rattle.model.proofs.Runs.{gated, gated-same, gated-map, fine-finite, lengthsRight, right-lengths, ran-fine}
 use Rattle.model.proofs.Counts.{words-counted}
 use Rattle.model.proofs.Checked.{program-fine}
 use Rattle.model.proofs.Agreement.{runs, agreement}
@@ -37,59 +38,71 @@ tells-told (solution ts p q) = refl
 tells-told (stopped r k u n) = refl
 tells-told (refusedBy r d) = refl
 
-module _ (N : ℕ) (L : Plan) (A B : List Float) (work words c y x : ℕ) where
-  -- solving by the compiler's answer, and then by 14 and 15
+module _ (N : ℕ) (L : Plan) (A B : List Float) (limit : Float) (work words c y x : ℕ) where
+  -- solving by the compiler's answer, and then by 14, 15 and 21
   solvingBy : Compiled → Seen
   solvingBy answer = elim answer [
     | refusal r d ↦ early r d
-    | written s p r ↦ gated (early 14 0) (early 15) (lengthsRight N (length L) (slots N L) (length A) (length B) c y x)
-        (notFinite 1 A) (notFinite 1 B) (compressed N L (dense N L A B))
+    | written s p r ↦ gated (early 14 0) early (lengthsRight N (length L) (slots N L) (length A) (length B) c y x)
+        (checkValues A B limit) (compressed N L (dense N L A B limit))
   ]
 
-  solving-is : solving N L A B work words c y x ≡ solvingBy (compiles N L work words)
+  solving-is : solving N L A B limit work words c y x ≡ solvingBy (compiles N L work words)
   unfolding solving solvingBy gated lengthsRight
   solving-is = refl
 
   -- where the compiler refuses, that is the ending
-  pub solving-refused : (r d : ℕ) → compiles N L work words ≡ refusal r d → solving N L A B work words c y x ≡ early r d
+  pub solving-refused : (r d : ℕ) → compiles N L work words ≡ refusal r d → solving N L A B limit work words c y x ≡ early r d
   unfolding solvingBy
   solving-refused r d e = solving-is ∙ ap solvingBy e
 
   -- where it writes the program, the run's ending is
   pub solving-runs : (s p r : ℕ) → compiles N L work words ≡ written s p r → Values A → Values B
-      → seen (ran (compiled N L) A B c y x) ≡ solving N L A B work words c y x
+      → seen (ran (compiled N L) A B limit c y x) ≡ solving N L A B limit work words c y x
   unfolding compiled seen solvingBy
   solving-runs s p r e a b =
       let k = compiles-success N L work words s p r e in
       let right = lengthsRight N (length L) (slots N L) (length A) (length B) c y x in
-      let accepts : right ≡ true → notFinite 1 A ≡ 0 → notFinite 1 B ≡ 0 → Accepted N L A B = λ l fa fb.
+      let accepts : right ≡ true → checkValues A B limit ≡ fine → Accepted N L A B limit = λ l v.
       let n = right-lengths N (length L) (slots N L) (length A) (length B) c y x l in
+      let f = fine-finite A B limit v in
       record {
-        given = record { order = k .order; labels = k .labels; lengthA = n .0; lengthB = n .1; valuesA = a; valuesB = b; finiteA = fa; finiteB = fb };
+        given = record {
+          order = k .order;
+          labels = k .labels;
+          lengthA = n .0;
+          lengthB = n .1;
+          valuesA = a;
+          valuesB = b;
+          finiteA = f .finiteA;
+          finiteB = f .finiteB;
+          limited = f .limited;
+        };
         pivots = k .pivots;
       } in
-      ap seen (ran-fine (compiled N L) A B c y x (program-fine N L (k .order) (k .labels) (k .pivots)))
-      ∙ gated-map seen (refusedBy 14 0) (refusedBy 15) right (notFinite 1 A) (notFinite 1 B) _
-      ∙ gated-same (early 14 0) (early 15) right (notFinite 1 A) (notFinite 1 B) _ _
-      (λ l fa fb. sym (ap seen (runs (accepts l fa fb))) ∙ agreement (accepts l fa fb))
+      ap seen (ran-fine (compiled N L) A B limit c y x (program-fine N L (k .order) (k .labels) (k .pivots)))
+      ∙ gated-map seen (refusedBy 14 0) refusedBy right (checkValues A B limit) _
+      ∙ gated-same (early 14 0) early right (checkValues A B limit) _ _
+      (λ l v. sym (ap seen (runs (accepts l v))) ∙ agreement N L A B limit (accepts l v))
       ∙ sym (solving-is ∙ ap solvingBy e)
 
 -- ---- what `solve` answers and leaves
 
 -- the answer with what then stands in the lent tables, which held c, y and x
-pub record Solves (N : ℕ) (L : Plan) (A B : List Float) (work words : ℕ) (c y x : List Float) (answer : Reply) (c′ y′ x′ : List Float) : Type 0 where
-  pub tells : tellsOf answer ≡ told (solving N L A B work words (length c) (length y) (length x))
-  pub replies : answer ≡ replied N L A B work words (length c) (length y) (length x)
-  pub c-is : c′ ≡ leftIn (solving N L A B work words (length c) (length y) (length x)) C c
-  pub y-is : y′ ≡ leftIn (solving N L A B work words (length c) (length y) (length x)) Y y
-  pub x-is : x′ ≡ leftIn (solving N L A B work words (length c) (length y) (length x)) X x
+pub record Solves (N : ℕ) (L : Plan) (A B : List Float) (limit : Float) (work words : ℕ) (c y x : List Float) (answer : Reply) (c′ y′ x′ : List Float)
+    : Type 0 where
+  pub tells : tellsOf answer ≡ told (solving N L A B limit work words (length c) (length y) (length x))
+  pub replies : answer ≡ replied N L A B limit work words (length c) (length y) (length x)
+  pub c-is : c′ ≡ leftIn (solving N L A B limit work words (length c) (length y) (length x)) C c
+  pub y-is : y′ ≡ leftIn (solving N L A B limit work words (length c) (length y) (length x)) Y y
+  pub x-is : x′ ≡ leftIn (solving N L A B limit work words (length c) (length y) (length x)) X x
 
-module _ (N : ℕ) (L : Plan) (A B : List Float) (work words : ℕ) (c y x : List Float) where
+module _ (N : ℕ) (L : Plan) (A B : List Float) (limit : Float) (work words : ℕ) (c y x : List Float) where
   -- after the compiler's refusal
-  pub refused-solves : (r d : ℕ) → compiles N L work words ≡ refusal r d → Solves N L A B work words c y x (refuses r d) c y x
+  pub refused-solves : (r d : ℕ) → compiles N L work words ≡ refusal r d → Solves N L A B limit work words c y x (refuses r d) c y x
   unfolding told leftIn replied
   refused-solves r d e =
-      let ends = solving-refused N L A B work words (length c) (length y) (length x) r d e in
+      let ends = solving-refused N L A B limit work words (length c) (length y) (length x) r d e in
       record {
         tells = ap told (sym ends);
         replies = rw (replied, e);
@@ -100,13 +113,13 @@ module _ (N : ℕ) (L : Plan) (A B : List Float) (work words : ℕ) (c y x : Lis
 
   -- after the run of the compiled program
   pub ran-solves : (s p r : ℕ) → compiles N L work words ≡ written s p r → Values A → Values B
-      → let o = ran (compiled N L) A B (length c) (length y) (length x) in
-      Solves N L A B work words c y x (reply o) (leaves o C c) (leaves o Y y) (leaves o X x)
+      → let o = ran (compiled N L) A B limit (length c) (length y) (length x) in
+      Solves N L A B limit work words c y x (reply o) (leaves o C c) (leaves o Y y) (leaves o X x)
   unfolding replied
   ran-solves s p r e a b =
-      let ends = solving-runs N L A B work words (length c) (length y) (length x) s p r e a b in
-      let o = ran (compiled N L) A B (length c) (length y) (length x) in
-      let left : (t : Table) (vs : List Float) → leaves o t vs ≡ leftIn (solving N L A B work words (length c) (length y) (length x)) t vs =
+      let ends = solving-runs N L A B limit work words (length c) (length y) (length x) s p r e a b in
+      let o = ran (compiled N L) A B limit (length c) (length y) (length x) in
+      let left : (t : Table) (vs : List Float) → leaves o t vs ≡ leftIn (solving N L A B limit work words (length c) (length y) (length x)) t vs =
       λ t vs. leaves-left _ t vs ∙ ap (λ s. leftIn s t vs) ends in
       record { tells = tells-told _ ∙ ap told ends; replies = rw (replied, e); c-is = left C c; y-is = left Y y; x-is = left X x }
 

@@ -8,7 +8,7 @@ use lib.Dec.{leb, ltb, eqb}
 use lib.ListN.{length, length-append}
 use lib.Ieee.{Float}
 use borrow.Author.Tests.{ltb-true, leb-true, eqb-true}
-use Rattle.model.specs.Arith.{Answer, number, overflow, zeroDivisor, quotient, isZero}
+use Rattle.model.specs.Arith.{Answer, number, overflow, zeroDivisor, quotient, isSmall}
 use Rattle.model.specs.Formula.{Table, C, Y, X, Tables, entry, closed, less}
 use Rattle.model.specs.Check.{Open, idle, busy, Progress, Kind, opens, subtracts, divides, closes, closesPivot, none}
 use Rattle.model.specs.Check.{inOrder, inTurn, counted, onward}
@@ -45,7 +45,7 @@ abbrev pub AfterStep : ℕ → ℕ → Open → State → Kind → Stepped → T
 AfterStep N s o z k (going z′) = AfterRecord N s o z k z′
 AfterStep N s o z k (stop r) = Unit {0}
 
-module _ (A B : List Float) (N n s : ℕ) (z : State) (p q : ℕ) where
+module _ (A B : List Float) (limit : Float) (N n s : ℕ) (z : State) (p q : ℕ) where
   answered-after : (o : Open) (k : Kind) (a : Answer) (f : Float → State) → ((v : Float) → AfterRecord N s o z k (f v)) → AfterStep N s o z k (settledStep a f)
   answered-after o k (number v) f after = after v
   answered-after o k overflow f after = tt
@@ -61,13 +61,13 @@ module _ (A B : List Float) (N n s : ℕ) (z : State) (p q : ℕ) where
       (ap (λ m. record { target = idle; c = length (z .tables .c); y = m; x = length (z .tables .x) }) (omega arith))
   closed-after X room = rw (room .0, closed)
 
-  tested-after : (zero? : Bool) → OpenRoom N s (busy C) z → AfterStep N s (busy C) z closesPivot (cond zero? (stop 17) (going (closing z)))
+  tested-after : (small? : Bool) → OpenRoom N s (busy C) z → AfterStep N s (busy C) z closesPivot (cond small? (stop 17) (going (closing z)))
   tested-after true room = tt
   tested-after false room = record { progress = closed-after C room; room = tt; made = omega arith }
 
   -- a record that passes 11 and 12 leads to such a state
   pub after-step : (o : Open) (k : Kind) → inOrder k o ≡ true → inTurn N n s k p q (progressIn o z) ≡ true → OpenRoom N s o z
-      → AfterStep N s o z k (step A B z k p q)
+      → AfterStep N s o z k (step A B limit z k p q)
   unfolding inOrder inTurn step
   after-step idle (opens C) order turn room =
       let t = both (leb p n) (eqb q (suc (length (z .tables .c))) && leb q s) turn in
@@ -89,7 +89,7 @@ module _ (A B : List Float) (N n s : ℕ) (z : State) (p q : ℕ) where
   after-step (busy C) closes order turn room = record { progress = closed-after C room; room = tt; made = omega arith }
   after-step (busy Y) closes order turn room = record { progress = closed-after Y room; room = tt; made = omega arith }
   after-step (busy X) closes order turn room = record { progress = closed-after X room; room = tt; made = omega arith }
-  after-step (busy C) closesPivot order turn room = tested-after (isZero (z .running)) room
+  after-step (busy C) closesPivot order turn room = tested-after (isSmall limit (z .running)) room
   after-step o none order turn room = record { progress = refl; room = room; made = omega arith }
   after-step (busy u) (opens t) order turn room = absurd (false≢true order)
   after-step idle (subtracts t) order turn room = absurd (false≢true order)

@@ -13,7 +13,8 @@ use lib.Ieee.{Float}
 use Rattle.model.specs.Lists.{kept}
 use Rattle.model.specs.Label.{label}
 use Rattle.model.specs.Fill.{Plan, position, held, slot}
-use Rattle.model.specs.Arith.{plusZero, Answer, number, overflow, zeroDivisor, clean, isFinite, isZero, next, product, difference, quotient}
+use Rattle.model.specs.Arith.{plusZero, Answer, number, overflow, zeroDivisor, clean, isFinite, isZero, isSmall, isLimit, next}
+use Rattle.model.specs.Arith.{product, difference, quotient}
 use Rattle.model.specs.Formula.{Table, C, Y, X, Tables, Formula, entry, closed, starting, less, lessAll, over, tested, value}
 use Rattle.model.specs.Crout.{inner, lower, forward, upper, backward, nothing}
 use Rattle.model.specs.Run.{notFinite}
@@ -24,7 +25,7 @@ use Rattle.model.proofs.Labels.{Inside, label-in-row, label-range, labe
 use Rattle.model.proofs.Fill.{not-held}
 use Rattle.model.proofs.Slots.{slot-range}
 use Rattle.model.proofs.Arith.{Good, nought, GoodAnswer, clean-good, difference-good, quotient-good}
-use Rattle.model.proofs.Arith.{product-nought-left, product-nought-right, quotient-nought, difference-nought}
+use Rattle.model.proofs.Arith.{product-nought-left, product-nought-right, quotient-nought, difference-nought, small-nought, large-nonzero}
 use Rattle.model.proofs.Picked.{shrunk, entry-held}
 use Rattle.model.proofs.Beside.{denseOf, reducedOf, formula-lower, formula-upper}
 
@@ -91,32 +92,32 @@ over-good t d a g = step (eqb d 0)
     step true = g
     step false = next-good a _ (λ v. quotient-good v (entry t C d))
 
-tested-good : (p : Bool) (a : Answer) → GoodAnswer a → GoodAnswer (tested p a)
+tested-good : (limit : Float) (p : Bool) (a : Answer) → GoodAnswer a → GoodAnswer (tested limit p a)
 unfolding tested next
-tested-good false a g = g
-tested-good true overflow g = tt
-tested-good true zeroDivisor g = tt
-tested-good true (number v) g = step (isZero v)
+tested-good limit false a g = g
+tested-good limit true overflow g = tt
+tested-good limit true zeroDivisor g = tt
+tested-good limit true (number v) g = step (isSmall limit v)
   where
     step : (b : Bool) → GoodAnswer (cond b zeroDivisor (number v))
     step true = tt
     step false = g
 
--- a number that passes the pivot test isn't zero
-tested-nonzero : (a : Answer) (v : Float) → tested true a ≡ number v → isZero v ≡ false
+-- a number that passes the pivot test isn't small
+tested-large : (limit : Float) (a : Answer) (v : Float) → tested limit true a ≡ number v → isSmall limit v ≡ false
 unfolding tested next
-tested-nonzero overflow v e = let z : _≡_ {A = ℕ} 0 1 = cc in absurd (omega arith)
-tested-nonzero zeroDivisor v e = let z : _≡_ {A = ℕ} 0 1 = cc in absurd (omega arith)
-tested-nonzero (number w) v e = step (isZero w) refl e
+tested-large limit overflow v e = let z : _≡_ {A = ℕ} 0 1 = cc in absurd (omega arith)
+tested-large limit zeroDivisor v e = let z : _≡_ {A = ℕ} 0 1 = cc in absurd (omega arith)
+tested-large limit (number w) v e = step (isSmall limit w) refl e
   where
-    step : (b : Bool) → isZero w ≡ b → cond b zeroDivisor (number w) ≡ number v → isZero v ≡ false
+    step : (b : Bool) → isSmall limit w ≡ b → cond b zeroDivisor (number w) ≡ number v → isSmall limit v ≡ false
     step true f e = let z : _≡_ {A = ℕ} 0 1 = cc in absurd (omega arith)
     step false f e = let same : w ≡ v = cc in rw same at f
 
 -- the value of a formula with a good start is good
-value-good : (A B : List Float) (t : Tables) (f : Formula) → Good (starting A B t (f .table) (f .start)) → GoodAnswer (value A B t f)
+value-good : (A B : List Float) (limit : Float) (t : Tables) (f : Formula) → Good (starting A B t (f .table) (f .start)) → GoodAnswer (value A B limit t f)
 unfolding value
-value-good A B t f g = tested-good (f .pivot) _ (over-good t (f .divisor) _ (lessAll-good t (f .table) _ (f .products) g))
+value-good A B limit t f g = tested-good limit (f .pivot) _ (over-good t (f .divisor) _ (lessAll-good t (f .table) _ (f .products) g))
 
 -- ---- products that vanish
 
@@ -232,10 +233,10 @@ over-at : (t : Tables) (d : ℕ) (a : Answer) → 1 ≤ d → over t d a ≡ nex
 unfolding over
 over-at t d a h = rw (ne-eqb d 0 (λ e. omega arith))
 
-tested-nought : (p : Bool) → tested p (number plusZero) ≡ cond p zeroDivisor (number plusZero)
-unfolding tested next isZero
-tested-nought true = refl
-tested-nought false = refl
+tested-nought : (limit : Float) → isLimit limit ≡ true → (p : Bool) → tested limit p (number plusZero) ≡ cond p zeroDivisor (number plusZero)
+unfolding tested next
+tested-nought limit l true = rw (small-nought limit l)
+tested-nought limit l false = refl
 
 module _ {N n : ℕ} {L : Plan} {t : Tables} (sound : Sound N L n t) where
   entry-good : (tb : Table) (k : ℕ) → Good (entry t tb k)
@@ -286,11 +287,12 @@ module _ {N n : ℕ} {L : Plan} {t : Tables} (sound : Sound N L n t) where
 -- ---- values
 
 -- what A and B are read as is good
-pub record Reads (A B : List Float) : Type 0 where
+pub record Reads (A B : List Float) (limit : Float) : Type 0 where
   pub a : (k : ℕ) → Good (clean (getD A k plusZero))
   pub b : (k : ℕ) → Good (clean (getD B k plusZero))
+  pub limited : isLimit limit ≡ true
 
-module _ {N n : ℕ} {L : Plan} {A B : List Float} {t : Tables} (reads : Reads A B) (sound : Sound N L n t) where
+module _ {N n : ℕ} {L : Plan} {A B : List Float} {limit : Float} {t : Tables} (reads : Reads A B limit) (sound : Sound N L n t) where
   starting-good : (tb : Table) (k : ℕ) → Good (starting A B t tb k)
   unfolding starting
   starting-good C k = either Good (eqb k 0) plusZero (clean (getD A (k - 1) plusZero)) (λ e. nought) (λ e. reads .a (k - 1))
@@ -298,8 +300,8 @@ module _ {N n : ℕ} {L : Plan} {A B : List Float} {t : Tables} (reads : Reads A
   starting-good X k = entry-good sound Y k
 
   -- every number answered is good
-  pub number-good : (f : Formula) {v : Float} → value A B t f ≡ number v → Good v
-  number-good f e = subst GoodAnswer e (value-good A B t f (starting-good (f .table) (f .start)))
+  pub number-good : (f : Formula) {v : Float} → value A B limit t f ≡ number v → Good v
+  number-good f e = subst GoodAnswer e (value-good A B limit t f (starting-good (f .table) (f .start)))
 
   unheld-less : (i j m : ℕ) → Inside N i j → m ≤ i → m ≤ j → held N L i j ≡ false
       → lessAll t C (number (starting A B t C (position L (label N i j)))) (inner N L (label N) (λ i j. true) i j m) ≡ number plusZero
@@ -307,12 +309,12 @@ module _ {N n : ℕ} {L : Plan} {A B : List Float} {t : Tables} (reads : Reads A
   unheld-less i j m inside p q e = rw (not-held N L i j e .0) (inner-nought sound i j m inside p q e)
 
   unheld-lower : (i m : ℕ) → Inside N i m → m ≤ i → held N L i m ≡ false
-      → value A B t (lower N L (label N) (λ i j. true) i m) ≡ cond (eqb i m) zeroDivisor (number plusZero)
+      → value A B limit t (lower N L (label N) (λ i j. true) i m) ≡ cond (eqb i m) zeroDivisor (number plusZero)
   unfolding value lower over
-  unheld-lower i m inside h e = rw (unheld-less i m m inside h (omega arith) e) (tested-nought (eqb i m))
+  unheld-lower i m inside h e = rw (unheld-less i m m inside h (omega arith) e) (tested-nought limit (reads .limited) (eqb i m))
 
   unheld-upper : (m j : ℕ) → Inside N m j → m < j → label N m j ≡ suc n → held N L m j ≡ false
-      → value A B t (upper N L (label N) (λ i j. true) m j) ≡ number plusZero
+      → value A B limit t (upper N L (label N) (λ i j. true) m j) ≡ number plusZero
   unfolding value upper tested next
   unheld-upper m j inside h turn e =
       let first = label-range N m m (omega arith) .0 in
@@ -321,18 +323,20 @@ module _ {N n : ℕ} {L : Plan} {A B : List Float} {t : Tables} (reads : Reads A
 
   -- a place that isn't held gets +0, or is refused as a pivot
   pub unheld-value : (i j : ℕ) → Inside N i j → label N i j ≡ suc n → held N L i j ≡ false
-      → value A B t (denseOf N L i j) ≡ cond (eqb i j) zeroDivisor (number plusZero)
+      → value A B limit t (denseOf N L i j) ≡ cond (eqb i j) zeroDivisor (number plusZero)
   unheld-value i j inside turn e = elim (decLe j i) [
     | yes h ↦ rw (formula-lower N L (label N) _ i j h) (unheld-lower i j inside h e)
     | no h ↦ let g : i < j = omega arith in rw (formula-upper N L (label N) _ i j g, ne-eqb i j (λ p. omega arith)) (unheld-upper i j inside g turn e)
   ]
 
-  pivot-value : (i j : ℕ) (v : Float) → i ≡ j → value A B t (denseOf N L i j) ≡ number v → isZero v ≡ false
+  pivot-value : (i j : ℕ) (v : Float) → i ≡ j → value A B limit t (denseOf N L i j) ≡ number v → isZero v ≡ false
   unfolding value lower
-  pivot-value i j v p e = tested-nonzero _ v (rw (formula-lower N L (label N) _ i j (omega arith), eq-eqb i j p) at e)
+  pivot-value i j v p e =
+      large-nonzero limit (reads .limited) (number-good (denseOf N L i j) e)
+      (tested-large limit _ v (rw (formula-lower N L (label N) _ i j (omega arith), eq-eqb i j p) at e))
 
   -- the number of a place is one that it may get
-  pub place-entered : (i j : ℕ) → Inside N i j → label N i j ≡ suc n → (v : Float) → value A B t (denseOf N L i j) ≡ number v → Entered N L i j v
+  pub place-entered : (i j : ℕ) → Inside N i j → label N i j ≡ suc n → (v : Float) → value A B limit t (denseOf N L i j) ≡ number v → Entered N L i j v
   place-entered i j inside turn v e = record {
     good = number-good (denseOf N L i j) e;
     unheld = λ h. step (eqb i j) (sym (unheld-value i j inside turn h) ∙ e);
@@ -346,29 +350,29 @@ module _ {N n : ℕ} {L : Plan} {A B : List Float} {t : Tables} (reads : Reads A
   -- where pivots are held, both sides have the same values
   module _ (pivots : (m : ℕ) → 1 ≤ m → m ≤ N → held N L m m ≡ true) where
     lower-same : (i m : ℕ) → Inside N i m → m ≤ i
-        → value A B (shrunk N L t) (lower N L (slot N L) (held N L) i m) ≡ value A B t (lower N L (label N) (λ i j. true) i m)
+        → value A B limit (shrunk N L t) (lower N L (slot N L) (held N L) i m) ≡ value A B limit t (lower N L (label N) (λ i j. true) i m)
     unfolding value lower over starting
-    lower-same i m inside h = ap (tested (eqb i m)) (inner-same sound i m m inside h (omega arith) _ (starting-good C (position L (label N i m))))
+    lower-same i m inside h = ap (tested limit (eqb i m)) (inner-same sound i m m inside h (omega arith) _ (starting-good C (position L (label N i m))))
 
     upper-same : (m j : ℕ) → Inside N m j → m < j
-        → value A B (shrunk N L t) (upper N L (slot N L) (held N L) m j) ≡ value A B t (upper N L (label N) (λ i j. true) m j)
+        → value A B limit (shrunk N L t) (upper N L (slot N L) (held N L) m j) ≡ value A B limit t (upper N L (label N) (λ i j. true) m j)
     unfolding value upper tested starting
     upper-same m j inside h = over-same sound m (omega arith) (pivots m (omega arith) (omega arith)) _
         ∙ ap (over t (label N m m)) (inner-same sound m j m inside (omega arith) (omega arith) _ (starting-good C (position L (label N m j))))
 
-    pub place-same : (i j : ℕ) → Inside N i j → value A B (shrunk N L t) (reducedOf N L i j) ≡ value A B t (denseOf N L i j)
+    pub place-same : (i j : ℕ) → Inside N i j → value A B limit (shrunk N L t) (reducedOf N L i j) ≡ value A B limit t (denseOf N L i j)
     place-same i j inside = elim (decLe j i) [
       | yes h ↦ rw (formula-lower N L (slot N L) _ i j h, formula-lower N L (label N) _ i j h) (lower-same i j inside h)
       | no h ↦ let g : i < j = omega arith in rw (formula-upper N L (slot N L) _ i j g, formula-upper N L (label N) _ i j g) (upper-same i j inside g)
     ]
 
     pub forward-same : (m : ℕ) → 1 ≤ m → m ≤ N
-        → value A B (shrunk N L t) (forward N L (slot N L) (held N L) m) ≡ value A B t (forward N L (label N) (λ i j. true) m)
+        → value A B limit (shrunk N L t) (forward N L (slot N L) (held N L) m) ≡ value A B limit t (forward N L (label N) (λ i j. true) m)
     unfolding value forward tested starting shrunk entry
     forward-same m low high = over-same sound m (omega arith) (pivots m low high) _
         ∙ ap (over t (label N m m)) (singles-same sound Y m _ (λ h. refl) (rising-each _ (λ h. h) 1 (m - 1) (λ h l r. omega arith)) _ (starting-good Y m))
 
     pub backward-same : (i : ℕ) → 1 ≤ i → i ≤ N
-        → value A B (shrunk N L t) (backward N L (slot N L) (held N L) i) ≡ value A B t (backward N L (label N) (λ i j. true) i)
+        → value A B limit (shrunk N L t) (backward N L (slot N L) (held N L) i) ≡ value A B limit t (backward N L (label N) (λ i j. true) i)
     unfolding value backward tested over starting shrunk entry
     backward-same i low high = singles-same sound X i _ (λ h. refl) (falling-each _ _ N (N - i) (λ h l r. omega arith)) _ (starting-good X i)

@@ -1,4 +1,4 @@
--- Demand 3 as a statement: what the run of a compiled program is beside dense Crout. Document 01, "Set beside dense Crout". Definitions only.
+-- Demand 3 as a statement: what the run of a compiled program is beside dense Crout. Document 01, "Set beside dense Crout"; document 02, A.1. Definitions only.
 use Prim.Native.Nat.{ℕ, _+_}
 use mathlib.Core.Bool.{true}
 use mathlib.Core.Path.{_≡_}
@@ -7,17 +7,20 @@ use lib.Dec.{T}
 use lib.ListN.{length, getD}
 use lib.Ieee.{Float, nan, fits, binary64}
 use Rattle.model.specs.Label.{isOrder, label, place}
-use Rattle.model.specs.Fill.{Plan, heldPlaces, slot, missing, above, productCount}
+use Rattle.model.specs.Fill.{Plan, heldPlaces, slot, slots, missing, above, productCount}
+use Rattle.model.specs.Arith.{isLimit}
 use Rattle.model.specs.Formula.{Table, C, Y, X, Tables, entry, Ended, solved, refused}
+use Rattle.model.specs.Crout.{dense}
+use Rattle.model.specs.Program.{compiled}
 use Rattle.model.specs.Compile.{judged, good}
-use Rattle.model.specs.Run.{Outcome, solution, stopped, refusedBy, notFinite}
+use Rattle.model.specs.Run.{Outcome, solution, stopped, refusedBy, notFinite, ran}
 
 -- every entry is a value of binary64, as those of an f64 slice are; past the end stands nan, which is one
 abbrev pub Values : List Float → Type 0
 Values vs = (k : ℕ) → T (fits binary64 (getD vs k nan))
 
--- an order, a plan whose labels rise strictly within 1..N², and finite values of the right lengths
-pub record Given (N : ℕ) (L : Plan) (A B : List Float) : Type 0 where
+-- an order, a plan whose labels rise strictly within 1..N², finite values of the right lengths, and a limit: "every finite t that isn't negative" (A.1)
+pub record Given (N : ℕ) (L : Plan) (A B : List Float) (limit : Float) : Type 0 where
   pub order : isOrder N ≡ true
   pub labels : judged N 0 1 L ≡ good
   pub lengthA : length A ≡ length L
@@ -26,10 +29,11 @@ pub record Given (N : ℕ) (L : Plan) (A B : List Float) : Type 0 where
   pub valuesB : Values B
   pub finiteA : notFinite 1 A ≡ 0
   pub finiteB : notFinite 1 B ≡ 0
+  pub limited : isLimit limit ≡ true
 
 -- "and no pivot is missing"
-pub record Accepted (N : ℕ) (L : Plan) (A B : List Float) : Type 0 where
-  pub given : Given N L A B
+pub record Accepted (N : ℕ) (L : Plan) (A B : List Float) (limit : Float) : Type 0 where
+  pub given : Given N L A B limit
   pub pivots : missing N L ≡ 0
 
 -- what is compared of two endings
@@ -58,3 +62,15 @@ compressed N L (solved t) = whole (packed N L t) (productCount N L) (N + above N
 compressed N L (refused r C k) = ended r C (slot N L (place N k .0) (place N k .1))
 compressed N L (refused r Y k) = ended r Y k
 compressed N L (refused r X k) = ended r X k
+
+-- ---- the statements; their proofs stand in proofs/
+
+-- Demand 3, with A.1's limit: the run of the compiled program is dense Crout.
+abbrev pub Agrees : ℕ → Plan → List Float → List Float → Float → Type 0
+Agrees N L A B limit = Accepted N L A B limit
+    → seen (ran (compiled N L) A B limit (slots N L) N N) ≡ compressed N L (dense N L A B limit)
+
+-- where a pivot is missing, "dense Crout ends in 16 or 17 on all finite A and B", for every limit
+abbrev pub NeverSolved : ℕ → Plan → List Float → List Float → Float → Type 0
+NeverSolved N L A B limit = Given N L A B limit → (missing N L ≡ 0 → ⊥)
+    → (t : Tables) → dense N L A B limit ≡ solved t → ⊥

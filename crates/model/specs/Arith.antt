@@ -1,6 +1,6 @@
--- One float operation: document 01, "Dense Crout" ("rounded once", "a zero result becomes +0", 16 and 17) and "Running". Definitions only.
+-- One float operation: document 01, "Dense Crout" ("rounded once", "a zero result becomes +0", 16 and 17) and "Running"; document 02, A.1. Definitions only.
 use Prim.Native.Nat.{zero, suc}
-use mathlib.Core.Bool.{Bool, true, false, cond}
+use mathlib.Core.Bool.{Bool, true, false, cond, _&&_}
 use lib.IntN.{pos}
 use lib.Ieee as Ieee
 use lib.Ieee.{Float, nan, inf, fin, binary64}
@@ -48,6 +48,14 @@ difference a b = settled (Ieee.sub binary64 a b)
 
 unfoldable pub quotient : Float → Float → Answer
 quotient a b = cond (isZero b) zeroDivisor (settled (Ieee.div binary64 a b))
+
+-- "A pivot l with -t ≤ l ≤ t", t being the threshold, here called the limit: by value, so that -0 is 0 (A.1)
+unfoldable pub isSmall : Float → Float → Bool
+isSmall t l = Ieee.le (Ieee.neg t) l && Ieee.le l t
+
+-- 21 refuses "a threshold that is negative or not finite"; -0 is neither
+unfoldable pub isLimit : Float → Bool
+isLimit t = isFinite t && Ieee.le plusZero t
 
 -- an operation on an answer: the first refusal stays
 unfoldable pub next : Answer → (Float → Answer) → Answer

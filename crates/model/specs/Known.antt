@@ -1,21 +1,21 @@
--- Document 01's "Known plans and values" and its listing, as one theorem about the definitions.
+-- Document 01's "Known plans and values" and its listing, and values for document 02's A.1, as one theorem about the definitions.
 use Prim.Native.Nat.{ℕ}
 use mathlib.Core.Bool.{true, false}
 use mathlib.Core.Path.{_≡_, refl}
 use mathlib.Core.List.{List, [], _∷_, map}
 use lib.IntN.{pos, negsuc}
-use lib.Ieee.{Float, fin, binary64, ofInt, mul, sub, div}
+use lib.Ieee.{Float, inf, fin, binary64, ofInt, mul, sub, div, neg, lt, eq, le}
 use Rattle.model.specs.Lists.{rising, falling, joined, kept, total, some, count}
 use Rattle.model.specs.Label.{label, column, row, places, place}
 use Rattle.model.specs.Fill.{Plan, positionFrom, position, heldWithin, held, heldPlaces, slots, slot}
 use Rattle.model.specs.Fill.{missingFrom, missing, pairsAt, below, above, productCount, recordCount}
-use Rattle.model.specs.Arith.{plusZero, clean, settled, isZero, isFinite, product, difference, quotient, next}
+use Rattle.model.specs.Arith.{plusZero, clean, settled, isZero, isFinite, product, difference, quotient, isSmall, isLimit, next}
 use Rattle.model.specs.Formula.{C, Y, Tables, solved, refused, entry, closed, starting, less, lessAll, over, tested, value, worked}
 use Rattle.model.specs.Crout.{inner, lower, forward, upper, backward, batch, formulas, denseFormulas, reducedFormulas, dense}
 use Rattle.model.specs.Program.{opening, recordsOf, chained, compiledRecords, compiled}
 use Rattle.model.specs.Compile.{written, refusal, judged, compiles}
 use Rattle.model.specs.Check.{chainAfter, chain, kindOf, formed, inOrder, inTurn, complete, checkLinks, check}
-use Rattle.model.specs.Run.{Outcome, solution, stopped, step, follow, notFinite, ran}
+use Rattle.model.specs.Run.{Outcome, solution, stopped, refusedBy, step, follow, followed, notFinite, checkValues, ran}
 
 abbrev int : ℕ → Float
 int n = ofInt binary64 (pos n)
@@ -36,6 +36,19 @@ huge = fin false 1 (pos 1000)
 abbrev tiny : Float
 tiny = fin false 1 (negsuc 999)
 
+-- 1/2 - 2^-54, 2^-1074, 1 + 2^-52 and 10^-9
+abbrev belowHalf : Float
+belowHalf = fin false 9007199254740991 (negsuc 53)
+
+abbrev smallest : Float
+smallest = fin false 1 (negsuc 1073)
+
+abbrev aboveOne : Float
+aboveOne = fin false 4503599627370497 (negsuc 51)
+
+abbrev nano : Float
+nano = fin false 4835703278458517 (negsuc 81)
+
 -- the plan of document 002, the full plan of order 2 and the plan of order 1
 abbrev plan₈ : Plan
 plan₈ = 1 ∷ 2 ∷ 4 ∷ 8 ∷ 10 ∷ 12 ∷ 15 ∷ 21 ∷ 28 ∷ 30 ∷ 33 ∷ 36 ∷ []
@@ -46,19 +59,25 @@ full₂ = 1 ∷ 2 ∷ 3 ∷ 4 ∷ []
 abbrev one : Plan
 one = 1 ∷ []
 
--- the compiled run of order 2 on A and B, and that of order 1
-abbrev ran₂ : List Float → List Float → Outcome
-ran₂ A B = ran (compiled 2 full₂) A B 4 2 2
+-- the compiled run of order 2 on A and B with a limit, and that of order 1
+abbrev ran₂ : List Float → List Float → Float → Outcome
+ran₂ A B limit = ran (compiled 2 full₂) A B limit 4 2 2
 
-abbrev ran₁ : List Float → List Float → Outcome
-ran₁ A B = ran (compiled 1 one) A B 1 1 1
+abbrev ran₁ : List Float → List Float → Float → Outcome
+ran₁ A B limit = ran (compiled 1 one) A B limit 1 1 1
 
--- the tables of V1 and of V4
+-- the tables of V1 and of V4, and of T2 and T4
 abbrev tables₁ : Tables
 tables₁ = record { order = 2; c = int 2 ∷ int 4 ∷ half ∷ int 2 ∷ []; y = ints (2 ∷ 2 ∷ []); x = ints (1 ∷ 2 ∷ []) }
 
 abbrev tables₄ : Tables
 tables₄ = record { order = 1; c = minusOne ∷ []; y = plusZero ∷ []; x = plusZero ∷ [] }
+
+abbrev halves : Tables
+halves = record { order = 1; c = half ∷ []; y = int 2 ∷ []; x = int 2 ∷ [] }
+
+abbrev noughts : Tables
+noughts = record { order = 1; c = smallest ∷ []; y = plusZero ∷ []; x = plusZero ∷ [] }
 
 pub record Known : Type 0 where
   p1 : (label 6 5 2 ≡ 15) × (label 6 1 6 ≡ 11) × (label 6 6 6 ≡ 36) × (place 6 15 ≡ (5, 2)) × (place 6 11 ≡ (1, 6)) × (place 6 36 ≡ (6, 6))
@@ -69,12 +88,22 @@ pub record Known : Type 0 where
   p6 : (compiles 2 (1 ∷ 1 ∷ []) 4 92 ≡ refusal 4 2) × (compiles 2 (5 ∷ []) 4 92 ≡ refusal 3 1)
   p7 : (compiles 0 [] 0 0 ≡ refusal 1 0) × (compiles 601 [] 361201 0 ≡ refusal 1 0)
   p8 : compiles 6 plan₈ 36 364 ≡ written 18 19 91
-  v1 : (dense 2 full₂ (ints (2 ∷ 4 ∷ 1 ∷ 4 ∷ [])) (ints (4 ∷ 12 ∷ [])) ≡ solved tables₁)
-      × (ran₂ (ints (2 ∷ 4 ∷ 1 ∷ 4 ∷ [])) (ints (4 ∷ 12 ∷ [])) ≡ solution tables₁ 3 3)
-  v2 : (dense 2 full₂ (ints (1 ∷ 1 ∷ 1 ∷ 1 ∷ [])) (ints (4 ∷ 12 ∷ [])) ≡ refused 17 C 4)
-      × (ran₂ (ints (1 ∷ 1 ∷ 1 ∷ 1 ∷ [])) (ints (4 ∷ 12 ∷ [])) ≡ stopped 17 13 C 4)
-  v3 : (dense 1 one (tiny ∷ []) (huge ∷ []) ≡ refused 16 Y 1) × (ran₁ (tiny ∷ []) (huge ∷ []) ≡ stopped 16 4 Y 1)
-  v4 : (dense 1 one (minusOne ∷ []) (plusZero ∷ []) ≡ solved tables₄) × (ran₁ (minusOne ∷ []) (plusZero ∷ []) ≡ solution tables₄ 0 1)
+  v1 : (dense 2 full₂ (ints (2 ∷ 4 ∷ 1 ∷ 4 ∷ [])) (ints (4 ∷ 12 ∷ [])) plusZero ≡ solved tables₁)
+      × (ran₂ (ints (2 ∷ 4 ∷ 1 ∷ 4 ∷ [])) (ints (4 ∷ 12 ∷ [])) plusZero ≡ solution tables₁ 3 3)
+  v2 : (dense 2 full₂ (ints (1 ∷ 1 ∷ 1 ∷ 1 ∷ [])) (ints (4 ∷ 12 ∷ [])) plusZero ≡ refused 17 C 4)
+      × (ran₂ (ints (1 ∷ 1 ∷ 1 ∷ 1 ∷ [])) (ints (4 ∷ 12 ∷ [])) plusZero ≡ stopped 17 13 C 4)
+  v3 : (dense 1 one (tiny ∷ []) (huge ∷ []) plusZero ≡ refused 16 Y 1) × (ran₁ (tiny ∷ []) (huge ∷ []) plusZero ≡ stopped 16 4 Y 1)
+  v4 : (dense 1 one (minusOne ∷ []) (plusZero ∷ []) plusZero ≡ solved tables₄)
+      × (ran₁ (minusOne ∷ []) (plusZero ∷ []) plusZero ≡ solution tables₄ 0 1)
+  -- A.1: a pivot of exactly -t, one just above t, and a second pivot near 0; a limit -0, one that is negative, and one with a value that is not finite
+  t1 : (dense 1 one (neg half ∷ []) (ints (1 ∷ [])) half ≡ refused 17 C 1) × (ran₁ (neg half ∷ []) (ints (1 ∷ [])) half ≡ stopped 17 2 C 1)
+  t2 : (dense 1 one (half ∷ []) (ints (1 ∷ [])) belowHalf ≡ solved halves) × (ran₁ (half ∷ []) (ints (1 ∷ [])) belowHalf ≡ solution halves 0 1)
+  t3 : (dense 2 full₂ (int 1 ∷ int 1 ∷ int 1 ∷ aboveOne ∷ []) (ints (4 ∷ 12 ∷ [])) nano ≡ refused 17 C 4)
+      × (ran₂ (int 1 ∷ int 1 ∷ int 1 ∷ aboveOne ∷ []) (ints (4 ∷ 12 ∷ [])) nano ≡ stopped 17 13 C 4)
+  t4 : (dense 1 one (smallest ∷ []) (plusZero ∷ []) (neg plusZero) ≡ solved noughts)
+      × (ran₁ (smallest ∷ []) (plusZero ∷ []) (neg plusZero) ≡ solution noughts 0 1)
+  t5 : ran₁ (ints (1 ∷ [])) (ints (1 ∷ [])) (neg smallest) ≡ refusedBy 21 0
+  t6 : ran₁ (ints (1 ∷ [])) (inf false ∷ []) minusOne ≡ refusedBy 15 1
   -- the listing for input `1 1`, a record a line
   listing : compiled 1 one
       ≡ 1 ∷ 1 ∷ 1 ∷ 1
@@ -90,10 +119,11 @@ pub record Known : Type 0 where
 pub known : Known
 unfolding rising falling joined kept total some count label column row places place
     positionFrom position heldWithin held heldPlaces slots slot missingFrom missing pairsAt below above productCount recordCount
-    clean settled isZero isFinite product difference quotient next entry closed starting less lessAll over tested value worked
+    clean settled isZero isFinite product difference quotient isSmall isLimit next entry closed starting less lessAll over tested value worked
     inner lower forward upper backward batch formulas denseFormulas reducedFormulas dense
     opening recordsOf chained compiledRecords compiled judged compiles
-    chainAfter chain kindOf formed inOrder inTurn complete checkLinks check step follow notFinite ran mul sub div ofInt
+    chainAfter chain kindOf formed inOrder inTurn complete checkLinks check step follow followed notFinite checkValues ran
+    mul sub div neg lt eq le ofInt
 known = record {
   p1 = (refl, refl, refl, refl, refl, refl);
   p2 = refl;
@@ -107,5 +137,11 @@ known = record {
   v2 = (refl, refl);
   v3 = (refl, refl);
   v4 = (refl, refl);
+  t1 = (refl, refl);
+  t2 = (refl, refl);
+  t3 = (refl, refl);
+  t4 = (refl, refl);
+  t5 = refl;
+  t6 = refl;
   listing = refl;
 }

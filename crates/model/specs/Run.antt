@@ -1,14 +1,14 @@
--- A run of a program, and what it leaves in the lent tables: document 01, "Running", 14 to 17. Definitions only.
+-- A run of a program, and what it leaves in the lent tables: document 01, "Running", 14 to 17; document 02, A.1. Definitions only.
 use Prim.Native.Nat.{ℕ, suc}
 use mathlib.Core.Bool.{true, false, cond, _&&_}
 use mathlib.Core.List.{List, [], _∷_}
 use lib.Dec.{eqb}
 use lib.ListN.{length, replicate}
 use lib.Ieee.{Float}
-use Rattle.model.specs.Arith.{plusZero, Answer, number, overflow, zeroDivisor, quotient, isZero, isFinite}
+use Rattle.model.specs.Arith.{plusZero, Answer, number, overflow, zeroDivisor, quotient, isFinite, isSmall, isLimit}
 use Rattle.model.specs.Formula.{Table, C, Y, X, numberOf, Tables, entry, closed, starting, less}
 use Rattle.model.specs.Crout.{nothing}
-use Rattle.model.specs.Check.{Link, Kind, opens, subtracts, divides, closes, closesPivot, none, kindOf, check, chain, fine, refusal, word}
+use Rattle.model.specs.Check.{Link, Kind, opens, subtracts, divides, closes, closesPivot, none, kindOf, check, chain, Verdict, fine, refusal, word}
 
 -- "The runner's state is the open target, its running number and the counts of closed entries": here the closed entries themselves, and
 -- beside them the products and quotients made.
@@ -26,7 +26,7 @@ pub data Outcome : Type 0 where
   solution : Tables → ℕ → ℕ → Outcome
   -- 16 or 17, the record, and the table and number of the open target
   stopped : ℕ → ℕ → Table → ℕ → Outcome
-  -- 7 to 15 and the detail
+  -- 7 to 15 or 21, and the detail
   refusedBy : ℕ → ℕ → Outcome
 
 -- the state after a record, or the refusal there, 16 or 17
@@ -60,46 +60,64 @@ settledStep (number v) f = going (f v)
 settledStep overflow f = stop 16
 settledStep zeroDivisor f = stop 17
 
--- one record: kind, p and q
-unfoldable pub step : List Float → List Float → State → Kind → ℕ → ℕ → Stepped
-step A B z (opens C) p q = going (opened z C q (starting A B (z .tables) C p))
-step A B z (opens Y) p q = going (opened z Y p (starting A B (z .tables) Y p))
-step A B z (opens X) p q = going (opened z X p (starting A B (z .tables) X p))
-step A B z (subtracts t) p q = settledStep (less (z .running) (entry (z .tables) C p) (entry (z .tables) t q)) (subtracted z)
-step A B z divides p q = settledStep (quotient (z .running) (entry (z .tables) C p)) (dividedBy z)
-step A B z closes p q = going (closing z)
-step A B z closesPivot p q = cond (isZero (z .running)) (stop 17) (going (closing z))
-step A B z none p q = going z
+-- One record: kind, p and q. At kind 9 "a pivot l with -t ≤ l ≤ t is refused by 17", t being the limit; "a divisor at kind 7 is still refused only if
+-- zero" (A.1).
+unfoldable pub step : List Float → List Float → Float → State → Kind → ℕ → ℕ → Stepped
+step A B limit z (opens C) p q = going (opened z C q (starting A B (z .tables) C p))
+step A B limit z (opens Y) p q = going (opened z Y p (starting A B (z .tables) Y p))
+step A B limit z (opens X) p q = going (opened z X p (starting A B (z .tables) X p))
+step A B limit z (subtracts t) p q = settledStep (less (z .running) (entry (z .tables) C p) (entry (z .tables) t q)) (subtracted z)
+step A B limit z divides p q = settledStep (quotient (z .running) (entry (z .tables) C p)) (dividedBy z)
+step A B limit z closes p q = going (closing z)
+step A B limit z closesPivot p q = cond (isSmall limit (z .running)) (stop 17) (going (closing z))
+step A B limit z none p q = going z
 
--- the records of a chain, up to the first refusal
-unfoldable pub follow : List Float → List Float → State → List Link → Outcome
-follow A B z [] = solution (z .tables) (z .products) (z .quotients)
-follow A B z (l ∷ ls) = elim (step A B z (kindOf (l .at .kind)) (l .at .p) (l .at .q)) [
-  | going z′ ↦ follow A B z′ ls
-  | stop r ↦ stopped r (l .index) (z .table) (z .target)
+-- where the records of a chain lead: past the last, or to the first refusal, 16 or 17, with its record, and the table and number of the open target
+pub data Followed : Type 0 where
+  through : State → Followed
+  halted : ℕ → ℕ → Table → ℕ → Followed
+
+unfoldable pub follow : List Float → List Float → Float → State → List Link → Followed
+follow A B limit z [] = through z
+follow A B limit z (l ∷ ls) = elim (step A B limit z (kindOf (l .at .kind)) (l .at .p) (l .at .q)) [
+  | going z′ ↦ follow A B limit z′ ls
+  | stop r ↦ halted r (l .index) (z .table) (z .target)
 ]
 
 -- nothing opened, nothing closed
 abbrev pub fresh : ℕ → State
 fresh N = record { tables = nothing N; table = C; target = 0; running = plusZero; products = 0; quotients = 0 }
 
+-- a run's ending by where its records lead
+unfoldable pub followed : Followed → Outcome
+followed (through z) = solution (z .tables) (z .products) (z .quotients)
+followed (halted r index t k) = stopped r index t k
+
 -- the position, from 1, of the first value that is not finite; 0 if all are
 unfoldable pub notFinite : ℕ → List Float → ℕ
 notFinite k [] = 0
 notFinite k (v ∷ vs) = let r = notFinite (suc k) vs in cond (isFinite v) r k
 
--- 7 to 13, 14, 15, then the records. lc, ly and lx are the lengths of the lent C, Y and X.
-unfoldable pub ran : List ℕ → List Float → List Float → ℕ → ℕ → ℕ → Outcome
-ran W A B lc ly lx =
-    let N = word W 0 in
-    let done = follow A B (fresh N) (chain W .links) in
+-- 15, A then B, and 21, "checked after 15"
+unfoldable pub checkValues : List Float → List Float → Float → Verdict
+checkValues A B limit =
     let a = notFinite 1 A in
     let b = notFinite 1 B in
+    elim (eqb a 0) [
+      | false ↦ refusal 15 a
+      | true ↦ elim (eqb b 0) [ false ↦ refusal 15 b | true ↦ elim (isLimit limit) [ false ↦ refusal 21 0 | true ↦ fine ] ]
+    ]
+
+-- 7 to 13, 14, 15, 21, then the records. lc, ly and lx are the lengths of the lent C, Y and X.
+unfoldable pub ran : List ℕ → List Float → List Float → Float → ℕ → ℕ → ℕ → Outcome
+ran W A B limit lc ly lx =
+    let N = word W 0 in
+    let done = followed (follow A B limit (fresh N) (chain W .links)) in
     elim (check W) [
       | refusal r d ↦ refusedBy r d
       | fine ↦ elim (eqb (length A) (word W 1) && (eqb (length B) N && (eqb lc (word W 2) && (eqb ly N && eqb lx N)))) [
         | false ↦ refusedBy 14 0
-        | true ↦ elim (eqb a 0) [ false ↦ refusedBy 15 a | true ↦ elim (eqb b 0) [ false ↦ refusedBy 15 b | true ↦ done ] ]
+        | true ↦ elim (checkValues A B limit) [ refusal r d ↦ refusedBy r d | fine ↦ done ]
       ]
     ]
 
@@ -109,7 +127,7 @@ pub data Reply : Type 0 where
   solves : ℕ → ℕ → Reply
   -- 16 or 17, the record, and the table's number and the number of the target
   stops : ℕ → ℕ → ℕ → ℕ → Reply
-  -- 7 to 15 and the detail
+  -- 7 to 15 or 21, and the detail
   refuses : ℕ → ℕ → Reply
 
 unfoldable pub reply : Outcome → Reply
@@ -117,7 +135,7 @@ reply (solution t products quotients) = solves products quotients
 reply (stopped r index t k) = stops r index (numberOf t) k
 reply (refusedBy r d) = refuses r d
 
--- What a run that ends so leaves in the lent table t, which held vs: that after 7 to 15, +0 everywhere after 16 and 17, the closed values on a solution.
+-- What a run that ends so leaves in the lent table t, which held vs: that after 7 to 15 and 21, +0 everywhere after 16 and 17, the closed values on a solution.
 unfoldable pub leaves : Outcome → Table → List Float → List Float
 leaves (solution t p q) C vs = t .c
 leaves (solution t p q) Y vs = t .y

@@ -1,4 +1,5 @@
--- What `solve` answers and leaves, by the checks 1 to 6, 14 and 15 and by dense Crout alone: document 01, "Set beside dense Crout". Definitions only.
+-- What `solve` answers and leaves, by the checks 1 to 6, 14, 15 and 21 and by dense Crout alone: document 01, "Set beside dense Crout"; document 02,
+-- A.1. Definitions only.
 use Prim.Native.Nat.{ℕ}
 use mathlib.Core.Bool.{true, false, _&&_}
 use mathlib.Core.List.{List}
@@ -11,21 +12,21 @@ use Rattle.model.specs.Formula.{Table, C, Y, X, numberOf}
 use Rattle.model.specs.Crout.{dense}
 use Rattle.model.specs.Program.{compiled}
 use Rattle.model.specs.Compile.{compiles, written, refusal}
-use Rattle.model.specs.Run.{notFinite, ran, Reply, solves, stops, refuses, reply}
+use Rattle.model.specs.Check as Check
+use Rattle.model.specs.Check.{fine}
+use Rattle.model.specs.Run.{checkValues, ran, Reply, solves, stops, refuses, reply}
 use Rattle.model.specs.Agreement.{Seen, whole, ended, early, compressed}
 
 -- How solving ends, with slices of work numbers, words, C, Y and X of these lengths: the compiler's checks, the lengths (14), the values (15),
--- then dense Crout with C compressed.
-unfoldable pub solving : ℕ → Plan → List Float → List Float → ℕ → ℕ → ℕ → ℕ → ℕ → Seen
-solving N L A B work words c y x =
-    let a = notFinite 1 A in
-    let b = notFinite 1 B in
-    let done = compressed N L (dense N L A B) in
+-- the limit (21), then dense Crout with C compressed.
+unfoldable pub solving : ℕ → Plan → List Float → List Float → Float → ℕ → ℕ → ℕ → ℕ → ℕ → Seen
+solving N L A B limit work words c y x =
+    let done = compressed N L (dense N L A B limit) in
     elim (compiles N L work words) [
       | refusal r d ↦ early r d
       | written s p r ↦ elim (eqb (length A) (length L) && (eqb (length B) N && (eqb c (slots N L) && (eqb y N && eqb x N)))) [
         | false ↦ early 14 0
-        | true ↦ elim (eqb a 0) [ false ↦ early 15 a | true ↦ elim (eqb b 0) [ false ↦ early 15 b | true ↦ done ] ]
+        | true ↦ elim (checkValues A B limit) [ Check.refusal r d ↦ early r d | fine ↦ done ]
       ]
     ]
 
@@ -35,7 +36,7 @@ pub data Told : Type 0 where
   solved : ℕ → ℕ → Told
   -- 16 or 17, and the table's number and the number of the target
   stopped : ℕ → ℕ → ℕ → Told
-  -- 1 to 15 and the detail
+  -- 1 to 15 or 21, and the detail
   refused : ℕ → ℕ → Told
 
 unfoldable pub told : Seen → Told
@@ -50,10 +51,10 @@ tellsOf (stops r index t k) = stopped r t k
 tellsOf (refuses r d) = refused r d
 
 -- the reply with its record: the compiler's refusal, or the reply of the compiled program's run
-unfoldable pub replied : ℕ → Plan → List Float → List Float → ℕ → ℕ → ℕ → ℕ → ℕ → Reply
-replied N L A B work words c y x = elim (compiles N L work words) [
+unfoldable pub replied : ℕ → Plan → List Float → List Float → Float → ℕ → ℕ → ℕ → ℕ → ℕ → Reply
+replied N L A B limit work words c y x = elim (compiles N L work words) [
   | refusal r d ↦ refuses r d
-  | written s p r ↦ reply (ran (compiled N L) A B c y x)
+  | written s p r ↦ reply (ran (compiled N L) A B limit c y x)
 ]
 
 -- what it leaves in the lent table t, which held vs

@@ -1,38 +1,21 @@
--- How a run ends: 7 to 15 before the records, and what the records leave.
+-- How a run ends: 7 to 15 and 21 before the records, and what the records leave.
 use Prim.Native.Nat.{ℕ}
-use mathlib.Core.Path.{_≡_, refl, sym, ap, subst, _∙_}
-use mathlib.Core.Bool.{Bool, true, false, cond}
+use mathlib.Core.Path.{_≡_, refl, sym, ap, ap₂, subst, _∙_}
+use mathlib.Core.Bool.{Bool, true, false}
 use mathlib.Core.List.{List}
 use lib.Dec.{eqb}
 use lib.ListN.{length, replicate}
 use lib.Ieee.{Float}
-use borrow.Author.Tests.{eqb-true, ne-eqb}
+use borrow.Author.Tests.{eqb-true}
 use Rattle.model.specs.Arith.{plusZero}
 use Rattle.model.specs.Formula.{C, Y, X}
-use Rattle.model.specs.Check.{word, fine, refusal, check}
-use Rattle.model.specs.Run.{Outcome, solution, stopped, refusedBy, notFinite, ran, Reply, solves, stops, refuses, reply, leaves}
+use Rattle.model.specs.Check.{word, Verdict, fine, refusal, check}
+use Rattle.model.specs.Run.{Outcome, solution, stopped, refusedBy, checkValues, ran}
+use Rattle.model.specs.Run.{Reply, solves, stops, refuses, reply, leaves}
 use Rattle.model.proofs.Passing.{both}
 use Rattle.model.proofs.Runs.{gated, lengthsRight, ranBy, ran-is, ran-fine}
 use Rattle.model.proofs.Running.{NotRefused}
-use Rattle.runner.specs.Following.{done, stands, lengthsFit, position, Fit}
-
--- 14, then 15 by the position k, then what the records give
-abbrev picked : Bool → ℕ → Outcome → Outcome
-picked fit k o = cond fit (cond (eqb k 0) o (refusedBy 15 k)) (refusedBy 14 0)
-
-gated-picked : (fit : Bool) (a b : ℕ) (o : Outcome) → gated (refusedBy 14 0) (refusedBy 15) fit a b o ≡ picked fit (cond (eqb a 0) b a) o
-unfolding gated
-gated-picked false a b o = refl
-gated-picked true a b o = first (eqb a 0) refl
-  where
-    second : (none : Bool) → elim none [ false ↦ refusedBy 15 b | true ↦ o ] ≡ cond none o (refusedBy 15 b)
-    second true = refl
-    second false = refl
-
-    first : (none : Bool) → eqb a 0 ≡ none → elim none [ false ↦ refusedBy 15 a | true ↦ elim (eqb b 0) [ false ↦ refusedBy 15 b | true ↦ o ] ]
-        ≡ picked true (cond none b a) o
-    first true e = second (eqb b 0)
-    first false e = rw e refl
+use Rattle.runner.specs.Following.{done, stands, lengthsFit, Fit}
 
 -- what a run that ends by o tells and leaves in tables that held c, y and x
 abbrev pub Leaves : Outcome → Reply → List Float → List Float → List Float → List Float → List Float → List Float → Type 0
@@ -68,35 +51,7 @@ module _ (W : List ℕ) (A B c y x : List Float) where
   abbrev Fits : Bool
   Fits = lengthsFit W (length A) (length B) (length c) (length y) (length x)
 
-  abbrev Run : Outcome
-  Run = ran W A B (length c) (length y) (length x)
-
-  run-picked : {fit : Bool} → check W ≡ fine → Fits ≡ fit → Run ≡ picked fit (position A B) (done W A B)
-  run-picked e f =
-      ran-fine W A B (length c) (length y) (length x) e ∙ gated-picked Fits (notFinite 1 A) (notFinite 1 B) (done W A B)
-      ∙ ap (λ fit. picked fit (position A B) (done W A B)) f
-
-  pub leaves-checked : (r d : ℕ) → check W ≡ refusal r d → Leaves Run (refuses r d) c y x c y x
-  unfolding ranBy
-  leaves-checked r d e =
-      leaves-refused Run r d c y x (ran-is W A B (length c) (length y) (length x) ∙ ap (ranBy W A B (length c) (length y) (length x)) e)
-
-  pub leaves-14 : check W ≡ fine → Fits ≡ false → Leaves Run (refuses 14 0) c y x c y x
-  leaves-14 e f = leaves-refused Run 14 0 c y x (run-picked e f)
-
-  pub leaves-15 : check W ≡ fine → Fits ≡ true → (k : ℕ) → k ≡ position A B → (k ≡ 0 → ⊥) → Leaves Run (refuses 15 k) c y x c y x
-  leaves-15 e f k is some =
-      leaves-refused Run 15 k c y x
-      (run-picked e f ∙ ap (λ k. cond (eqb k 0) (done W A B) (refusedBy 15 k)) (sym is) ∙ ap (λ b. cond b (done W A B) (refusedBy 15 k)) (ne-eqb k 0 some))
-
-  -- 7 to 15 passed
-  pub leaves-records : check W ≡ fine → Fits ≡ true → position A B ≡ 0 → (r : Reply) (c′ y′ x′ : List Float)
-      → Leaves (done W A B) r c y x c′ y′ x′ → Leaves Run r c y x c′ y′ x′
-  leaves-records e f none r c′ y′ x′ l =
-      let is = run-picked e f ∙ ap (λ k. cond (eqb k 0) (done W A B) (refusedBy 15 k)) none in
-      subst (λ o. Leaves o r c y x c′ y′ x′) (sym is) l
-
-  -- and then the lengths are those that the records rely on
+  -- where 14 passes, the lengths are those that the records rely on
   pub fit-true : check W ≡ fine → Fits ≡ true → Fit W (length A) (length B) (length c) (length y) (length x)
   unfolding lengthsRight
   fit-true e f =
@@ -112,3 +67,33 @@ module _ (W : List ℕ) (A B c y x : List Float) where
         in-y = eqb-true (length y) (word W 0) (n .0);
         in-x = eqb-true (length x) (word W 0) (n .1);
       }
+
+  module _ (limit : Float) where
+    abbrev Run : Outcome
+    Run = ran W A B limit (length c) (length y) (length x)
+
+    run-gated : {fit : Bool} {v : Verdict} → check W ≡ fine → Fits ≡ fit → checkValues A B limit ≡ v
+        → Run ≡ gated (refusedBy 14 0) refusedBy fit v (done W A B limit)
+    run-gated e f v =
+        ran-fine W A B limit (length c) (length y) (length x) e
+        ∙ ap₂ (λ fit v. gated (refusedBy 14 0) refusedBy fit v (done W A B limit)) f v
+
+    pub leaves-checked : (r d : ℕ) → check W ≡ refusal r d → Leaves Run (refuses r d) c y x c y x
+    unfolding ranBy
+    leaves-checked r d e =
+        leaves-refused Run r d c y x (ran-is W A B limit (length c) (length y) (length x) ∙ ap (ranBy W A B limit (length c) (length y) (length x)) e)
+
+    pub leaves-14 : check W ≡ fine → Fits ≡ false → Leaves Run (refuses 14 0) c y x c y x
+    unfolding gated
+    leaves-14 e f = leaves-refused Run 14 0 c y x (run-gated e f refl)
+
+    -- 15 and 21
+    pub leaves-values : check W ≡ fine → Fits ≡ true → (r d : ℕ) → checkValues A B limit ≡ refusal r d → Leaves Run (refuses r d) c y x c y x
+    unfolding gated
+    leaves-values e f r d v = leaves-refused Run r d c y x (run-gated e f v)
+
+    -- 7 to 15 and 21 passed
+    pub leaves-records : check W ≡ fine → Fits ≡ true → checkValues A B limit ≡ fine → (r : Reply) (c′ y′ x′ : List Float)
+        → Leaves (done W A B limit) r c y x c′ y′ x′ → Leaves Run r c y x c′ y′ x′
+    unfolding gated
+    leaves-records e f v r c′ y′ x′ l = subst (λ o. Leaves o r c y x c′ y′ x′) (sym (run-gated e f v)) l

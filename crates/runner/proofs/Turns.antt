@@ -24,9 +24,10 @@ use Rattle.runner.specs.Following.{done, stands, Fit}
 use Rattle.runner.proofs.Relying.{relies}
 
 -- what a run along the chain may end with: its reply, and what stands in the tables
-abbrev pub RunEnds : List ℕ → List Float → List Float → List Float → List Float → List Float → Reply → Type 0
-RunEnds W A B c y x r =
-    (r ≡ reply (done W A B)) × ((c ≡ stands (done W A B) C c) × ((y ≡ stands (done W A B) Y y) × (x ≡ stands (done W A B) X x)))
+abbrev pub RunEnds : List ℕ → List Float → List Float → Float → List Float → List Float → List Float → Reply → Type 0
+RunEnds W A B limit c y x r =
+    let end = done W A B limit in
+    (r ≡ reply end) × ((c ≡ stands end C c) × ((y ≡ stands end Y y) × (x ≡ stands end X x)))
 
 -- the tables have the lengths that they had
 pub record SameLengths (c₀ y₀ x₀ c y x : List Float) : Type 0 where
@@ -41,13 +42,13 @@ same-lengths-trans s t = record { of-c = t .of-c ∙ s .of-c; of-y = t .of-y ∙
 abbrev pub left : List ℕ → ℕ → ℕ
 left W next = cond (eqb next 0) 0 (length W / 4 - next)
 
-module _ (W : List ℕ) (A B : List Float) where
+module _ (W : List ℕ) (A B : List Float) (limit : Float) where
   -- record `last` was the last to run, or record 0 if none was, and led to z with the tables c, y and x
   pub record LastRan (c y x : List Float) (z : State) (last : ℕ) : Type 0 where
     pub fit : Fit W (length A) (length B) (length c) (length y) (length x)
     pub passed : Passed W
     pub sound : Sound (length c) (length y) (length x) z
-    pub after : RunAfter A B W (stateOf z c y x) last
+    pub after : RunAfter A B limit W (stateOf z c y x) last
 
   -- `next` is to run next
   pub record NextRuns (c y x : List Float) (z : State) (next : ℕ) : Type 0 where
@@ -60,22 +61,22 @@ fresh-state c y x =
     let all : length x - 0 ≡ length x = omega arith in
     rw (all, drop-length x)
 
-module _ {W : List ℕ} {A B : List Float} where
+module _ {W : List ℕ} {A B : List Float} {limit : Float} where
   -- nothing ran yet
-  pub starts : {c y x : List Float} → Fit W (length A) (length B) (length c) (length y) (length x) → LastRan W A B c y x unopened 0
+  pub starts : {c y x : List Float} → Fit W (length A) (length B) (length c) (length y) (length x) → LastRan W A B limit c y x unopened 0
   starts {c} {y} {x} fit =
       let passed = fine-passed W (fit .checked) in
       record {
         fit = fit;
         passed = passed;
         sound = record { named = refl; in-c = omega arith; in-y = omega arith; in-x = omega arith };
-        after = subst (λ z. RunAfter A B W z 0) (sym (fresh-state c y x ∙ ap Run.fresh (fit .in-x))) (run-begins passed);
+        after = subst (λ z. RunAfter A B limit W z 0) (sym (fresh-state c y x ∙ ap Run.fresh (fit .in-x))) (run-begins passed);
       }
 
   module _ {c y x : List Float} {z : State} where
     -- at the end of the chain everything is closed
-    pub ended : NextRuns W A B c y x z 0 → RunEnds W A B c y x (solves (z .products) (z .quotients))
-    unfolding reply stands complete
+    pub ended : NextRuns W A B limit c y x z 0 → RunEnds W A B limit c y x (solves (z .products) (z .quotients))
+    unfolding reply stands complete Run.followed
     ended b =
         let fit = b .ran .fit in
         let counts = counted z c y x (b .ran .sound) in
@@ -87,7 +88,7 @@ module _ {W : List ℕ} {A B : List Float} where
         let none-x : length x - z .x ≡ 0 = omega (arith, eqb-true (length (drop (length x - z .x) x)) (word W 0) (in-y .1)) in
         rw (end .0) (refl, (sym (take-all (z .c) c all-c), (sym (take-all (z .y) y all-y), rw none-x refl)))
 
-    module _ {k : ℕ} (b : NextRuns W A B c y x z k) (some : k ≡ 0 → ⊥) where
+    module _ {k : ℕ} (b : NextRuns W A B limit c y x z k) (some : k ≡ 0 → ⊥) where
       follows-some : nextOf W (b .last) ≡ 0 → ⊥
       follows-some e = some (sym (b .is) ∙ e)
 
@@ -95,9 +96,9 @@ module _ {W : List ℕ} {A B : List Float} where
       pub fits : k < length W / 4
       fits = subst (λ n. n < length W / 4) (b .is) (next-fits (b .ran .after) follows-some .1)
 
-      before : RunBefore A B W (stateOf z c y x) k (kindOf (word W (4 * k))) (word W (4 * k + 1)) (word W (4 * k + 2))
+      before : RunBefore A B limit W (stateOf z c y x) k (kindOf (word W (4 * k))) (word W (4 * k + 1)) (word W (4 * k + 2))
       before =
-          subst (λ n. RunBefore A B W (stateOf z c y x) n (kindOf (word W (4 * n))) (word W (4 * n + 1)) (word W (4 * n + 2))) (b .is)
+          subst (λ n. RunBefore A B limit W (stateOf z c y x) n (kindOf (word W (4 * n))) (word W (4 * n + 1)) (word W (4 * n + 2))) (b .is)
           (run-next (b .ran .after) follows-some)
 
       -- and its step has all that it relies on
@@ -115,10 +116,10 @@ module _ {W : List ℕ} {A B : List Float} where
 
       -- r is what the step at record k gave, with the tables c′, y′ and x′
       module _ {c′ y′ x′ : List Float} {r : Stepped} (same : SameLengths c y x c′ y′ x′)
-          (is : steppedOf r c′ y′ x′ ≡ Run.step A B (stateOf z c y x) (kindOf (word W (4 * k))) (word W (4 * k + 1)) (word W (4 * k + 2)))
+          (is : steppedOf r c′ y′ x′ ≡ Run.step A B limit (stateOf z c y x) (kindOf (word W (4 * k))) (word W (4 * k + 1)) (word W (4 * k + 2)))
           (sound : SoundStep (length c) (length y) (length x) r) where
         -- the run goes on
-        pub turned : {z′ : State} → r ≡ On z′ → LastRan W A B c′ y′ x′ z′ k
+        pub turned : {z′ : State} → r ≡ On z′ → LastRan W A B limit c′ y′ x′ z′ k
         turned {z′} e =
             let fit = b .ran .fit in
             record {
@@ -136,14 +137,14 @@ module _ {W : List ℕ} {A B : List Float} where
             }
 
         -- or stops there
-        pub stopped-at : {number : ℕ} → r ≡ Stop number → RunEnds W A B c′ y′ x′ (stops number k (z .table) (z .target))
-        unfolding reply stands
+        pub stopped-at : {number : ℕ} → r ≡ Stop number → RunEnds W A B limit c′ y′ x′ (stops number k (z .table) (z .target))
+        unfolding reply stands Run.followed
         stopped-at {number} e =
             rw (run-stops before number (ap (λ r. steppedOf r c′ y′ x′) (sym e) ∙ is))
             (ap (λ t. stops number k t (z .target)) (sym (b .ran .sound .named)), (refl, (refl, refl)))
 
   -- the next record, if there is one, is a later one
-  pub gets-on : {c y x : List Float} {z : State} {k₀ k next : ℕ} → (k₀ ≡ 0 → ⊥) → k₀ ≤ k → k < length W / 4 → LastRan W A B c y x z k → nextOf W k ≡ next
+  pub gets-on : {c y x : List Float} {z : State} {k₀ k next : ℕ} → (k₀ ≡ 0 → ⊥) → k₀ ≤ k → k < length W / 4 → LastRan W A B limit c y x z k → nextOf W k ≡ next
       → left W next < left W k₀
   gets-on {k₀ = k₀} {next = next} some from low ran is = rw (ne-eqb k₀ 0 some) (by (eqb next 0) refl)
     where

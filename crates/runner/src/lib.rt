@@ -1,18 +1,19 @@
-// A checked program on values: document 01, "Running", and 14 to 17.
+// A checked program on values: document 01, "Running", and 14 to 17; document 02, A.1.
 ghost use mathlib.Core.Path.{_≡_};
 ghost use Prim.Native.Nat.{_<_};
 ghost use lib.ListN.{length, replicate};
 ghost use Rattle.model.specs.Arith.{plusZero};
 ghost use Rattle.model.specs.Formula.{C, Y, X};
 ghost use Rattle.model.specs.Run as Run;
+ghost use Rattle.checker.specs.Checked.{verdictOf};
 ghost use Rattle.runner.specs.Outcome.{replyOf};
-ghost use Rattle.runner.specs.Following.{done, stands, lengthsFit, position, Fit};
+ghost use Rattle.runner.specs.Following.{done, stands, lengthsFit, Fit};
 use checker::Checked;
 use numbers::wide;
 use state::Stepped;
 
 // How a run ends: solved, with the products and quotients made; stopped at a record, by 16 or 17, with the table (1 for C, 2 Y, 3 X) and
-// the number of the open target; or refused, by 7 to 15.
+// the number of the open target; or refused, by 7 to 15 or by 21.
 pub enum Outcome {
     Solved {
         products: u32,
@@ -30,17 +31,19 @@ pub enum Outcome {
     },
 }
 
-// Runs a program on the values A and B, with C, Y and X lent for its tables: document 01's 7 to 13, then 14, then 15, then the records. On
-// a solution C, Y and X hold the closed values; 16 and 17 set them all to +0, and 7 to 15 change nothing.
+// Runs a program on the values A and B, with C, Y and X lent for its tables: 7 to 13, then 14, 15 and 21, then the records. A pivot l is
+// refused where -limit <= l <= limit. On a solution C, Y and X hold the closed values; 16 and 17 set them all to +0, and the others change
+// nothing.
 pub fn run(
     words: &[u32],
     a: &[f64],
     b: &[f64],
+    limit: f64,
     c: &mut [f64],
     y: &mut [f64],
     x: &mut [f64],
 ) -> Outcome
-    ensures { λ r. let end = Run.ran (now (words .entry)) (now (a .entry)) (now (b .entry))
+    ensures { λ r. let end = Run.ran (now (words .entry)) (now (a .entry)) (now (b .entry)) limit
         (length (now (c .entry))) (length (now (y .entry))) (length (now (x .entry))) in
         ⌜ (replyOf r ≡ Run.reply end)
         × ((now (c .exit) ≡ Run.leaves end C (now (c .entry)))
@@ -57,14 +60,11 @@ pub fn run(
             detail: 0,
         };
     }
-    let position = not_finite(a, b);
-    if position != 0 {
-        return Outcome::Refused {
-            number: 15,
-            detail: position as u64,
-        };
+    let values = check_values(a, b, limit);
+    if let Checked::Refused { number, detail } = values {
+        return Outcome::Refused { number, detail };
     }
-    run_records(words, a, b, c, y, x)
+    run_records(words, a, b, limit, c, y, x)
 }
 
 // 14: the lengths of A, B, C, Y and X are n, N, s, N and N.
@@ -76,34 +76,51 @@ fn lengths_fit(words: &[u32], a: usize, b: usize, c: usize, y: usize, x: usize) 
     a == wide(words[1]) && (b == order && (c == wide(words[2]) && (y == order && x == order)))
 }
 
-// 15: the position of the first value that is not finite, in A, then in B; 0 if there is none.
-fn not_finite(a: &[f64], b: &[f64]) -> usize
-    ensures { λ r. ⌜ r ≡ position (now (a .entry)) (now (b .entry)) ⌝ }
+// 15, in A, then in B, and then 21.
+fn check_values(a: &[f64], b: &[f64], limit: f64) -> Checked
+    ensures { λ r. ⌜ verdictOf r ≡ Run.checkValues (now (a .entry)) (now (b .entry)) limit ⌝ }
 {
-    let first = first_not_finite(a);
-    if first != 0 {
-        return first;
+    let in_a = first_not_finite(a);
+    if in_a != 0 {
+        return Checked::Refused {
+            number: 15,
+            detail: in_a as u64,
+        };
     }
-    first_not_finite(b)
+    let in_b = first_not_finite(b);
+    if in_b != 0 {
+        return Checked::Refused {
+            number: 15,
+            detail: in_b as u64,
+        };
+    }
+    if !arith::is_limit(limit) {
+        return Checked::Refused {
+            number: 21,
+            detail: 0,
+        };
+    }
+    Checked::Fine
 }
 
-// The records of a program that passed 7 to 15, and C, Y and X cleared after 16 and 17.
+// The records of a program that passed 7 to 15 and 21, and C, Y and X cleared after 16 and 17.
 fn run_records(
     words: &[u32],
     a: &[f64],
     b: &[f64],
+    limit: f64,
     c: &mut [f64],
     y: &mut [f64],
     x: &mut [f64],
 ) -> Outcome
     requires { ⌜ Fit (now words) (length (now a)) (length (now b)) (length (now c)) (length (now y)) (length (now x)) ⌝ }
-    ensures { λ r. let end = done (now (words .entry)) (now (a .entry)) (now (b .entry)) in
+    ensures { λ r. let end = done (now (words .entry)) (now (a .entry)) (now (b .entry)) limit in
         ⌜ (replyOf r ≡ Run.reply end)
         × ((now (c .exit) ≡ Run.leaves end C (now (c .entry)))
         × ((now (y .exit) ≡ Run.leaves end Y (now (y .entry)))
         × (now (x .exit) ≡ Run.leaves end X (now (x .entry))))) ⌝ }
 {
-    let outcome = follow(words, a, b, c, y, x);
+    let outcome = follow(words, a, b, limit, c, y, x);
     if let Outcome::Solved {
         products: _,
         quotients: _,
@@ -122,12 +139,13 @@ fn follow(
     words: &[u32],
     a: &[f64],
     b: &[f64],
+    limit: f64,
     c: &mut [f64],
     y: &mut [f64],
     x: &mut [f64],
 ) -> Outcome
     requires { ⌜ Fit (now words) (length (now a)) (length (now b)) (length (now c)) (length (now y)) (length (now x)) ⌝ }
-    ensures { λ r. let end = done (now (words .entry)) (now (a .entry)) (now (b .entry)) in
+    ensures { λ r. let end = done (now (words .entry)) (now (a .entry)) (now (b .entry)) limit in
         ⌜ (replyOf r ≡ Run.reply end)
         × ((now (c .exit) ≡ stands end C (now (c .exit)))
         × ((now (y .exit) ≡ stands end Y (now (y .exit)))
@@ -140,7 +158,8 @@ fn follow(
         loop {
             let at = 4 * k;
             let following = k + 1;
-            match state::step(z, words[at], words[at + 1], words[at + 2], a, b, c, y, x) {
+            let kind = words[at];
+            match state::step(z, kind, words[at + 1], words[at + 2], a, b, limit, c, y, x) {
                 Stepped::On(after) => z = after,
                 Stepped::Stop(number) => return Outcome::Stopped {
                     number,

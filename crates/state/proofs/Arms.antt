@@ -32,10 +32,10 @@ no-kind k a b c d e f g h i =
     rw (kindOf, ne-eqb k 1 a, ne-eqb k 2 b, ne-eqb k 3 c, ne-eqb k 4 d, ne-eqb k 5 e)
     (rw (ne-eqb k 6 f, ne-eqb k 7 g, ne-eqb k 8 h, ne-eqb k 9 i))
 
-module _ (A B c y x : List Float) (z : State) (sound : Sound (length c) (length y) (length x) z) where
+module _ (A B : List Float) (limit : Float) (c y x : List Float) (z : State) (sound : Sound (length c) (length y) (length x) z) where
   -- r with the tables c′, y′ and x′ is what a record of kind k gives
   abbrev pub Gives : Kind → ℕ → ℕ → Stepped → List Float → List Float → List Float → Type 0
-  Gives k p q r c′ y′ x′ = (steppedOf r c′ y′ x′ ≡ Run.step A B (stateOf z c y x) k p q) × SoundStep (length c) (length y) (length x) r
+  Gives k p q r c′ y′ x′ = (steppedOf r c′ y′ x′ ≡ Run.step A B limit (stateOf z c y x) k p q) × SoundStep (length c) (length y) (length x) r
 
   -- an answer steps as the model's does, if the states after it are the model's
   answer-gives : (a : Answer) (f : Float → State) (g : Float → Run.State) → ((v : Float) → stateOf (f v) c y x ≡ g v)
@@ -48,7 +48,7 @@ module _ (A B c y x : List Float) (z : State) (sound : Sound (length c) (length 
   module _ (k : Kind) (p q : ℕ) where
     -- the steps of kinds 1 to 3, 4 to 6, and 7
     pub gives-open : (t : Table) (n : ℕ) (v : Float) (r : State)
-        → Run.step A B (stateOf z c y x) (opens t) p q ≡ Run.going (Run.opened (stateOf z c y x) t n (starting A B (stateOf z c y x .tables) t p))
+        → Run.step A B limit (stateOf z c y x) (opens t) p q ≡ Run.going (Run.opened (stateOf z c y x) t n (starting A B (stateOf z c y x .tables) t p))
         → k ≡ opens t → r ≡ opened z (numberOf t) n v → v ≡ starting A B (stateOf z c y x .tables) t p → Gives k p q (On r) c y x
     gives-open t n v r clause e is from =
         rw (e, is) (

@@ -1,4 +1,4 @@
-// The state of a run, and one record on it: document 01, "Running".
+// The state of a run, and one record on it: document 01, "Running"; document 02, A.1.
 ghost use mathlib.Core.Path.{_≡_};
 ghost use mathlib.Core.Bool.{cond};
 ghost use Prim.Native.Nat.{_-_, _≤_, _<_};
@@ -124,7 +124,7 @@ fn coefficient(a: &[f64], p: u32) -> f64
     }
 }
 
-// One record.
+// One record. A pivot l, at kind 9, is refused where -limit <= l <= limit.
 pub fn step(
     z: State,
     kind: u32,
@@ -132,13 +132,14 @@ pub fn step(
     q: u32,
     a: &[f64],
     b: &[f64],
+    limit: f64,
     c: &mut [f64],
     y: &mut [f64],
     x: &mut [f64],
 ) -> Stepped
     requires { ⌜ Ready (length (now a)) (length (now b)) (length (now c)) (length (now y)) (length (now x)) z (kindOf kind) p q ⌝ }
     ensures { λ r. ⌜ steppedOf r (now (c .exit)) (now (y .exit)) (now (x .exit))
-        ≡ Run.step (now (a .entry)) (now (b .entry)) (stateOf z (now (c .entry)) (now (y .entry)) (now (x .entry))) (kindOf kind) p q ⌝ }
+        ≡ Run.step (now (a .entry)) (now (b .entry)) limit (stateOf z (now (c .entry)) (now (y .entry)) (now (x .entry))) (kindOf kind) p q ⌝ }
     ensures { λ r. ⌜ SoundStep (length (now (c .entry))) (length (now (y .entry))) (length (now (x .entry))) r ⌝ }
 {
     match kind {
@@ -151,7 +152,7 @@ pub fn step(
         7 => z.divide(entry(c, p)),
         8 => Stepped::On(z.close(c, y, x)),
         9 => {
-            if arith::is_zero(z.running) {
+            if arith::is_small(limit, z.running) {
                 Stepped::Stop(17)
             } else {
                 Stepped::On(z.close(c, y, x))

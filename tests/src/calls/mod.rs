@@ -8,26 +8,31 @@ pub mod file;
 pub mod labels;
 pub mod run;
 
-/// What a call that can refuse answers: the number that it returns, and the three that it puts into `out`.
-#[derive(Clone, Copy, Debug, PartialEq, Eq)]
-pub struct Answer {
-    pub returned: u64,
-    pub out: [u64; 3],
+/// A refusal and its detail as one number.
+pub fn refused(number: u32, detail: u64) -> u64 {
+    assert!(detail >> 32 == 0, "a detail of more than 32 bits can't be returned");
+    u64::from(number) << 32 | detail
 }
 
-impl Answer {
-    pub fn fine(out: [u64; 3]) -> Self {
+/// What a call that can refuse answers: the number that it returns, and the three, or four, that it puts into `out`.
+#[derive(Clone, Copy, Debug, PartialEq, Eq)]
+pub struct Answer<const K: usize = 3> {
+    pub returned: u64,
+    pub out: [u64; K],
+}
+
+impl<const K: usize> Answer<K> {
+    pub fn fine(out: [u64; K]) -> Self {
         Self { returned: 0, out }
     }
 
     pub fn refused(number: u32, detail: u64) -> Self {
-        Self::stopped(number, detail, [0; 3])
+        Self::stopped(number, detail, [0; K])
     }
 
     /// A refusal that names more than its detail.
-    pub fn stopped(number: u32, detail: u64, out: [u64; 3]) -> Self {
-        assert!(detail >> 32 == 0, "a detail of more than 32 bits can't be returned");
-        Self { returned: u64::from(number) << 32 | detail, out }
+    pub fn stopped(number: u32, detail: u64, out: [u64; K]) -> Self {
+        Self { returned: refused(number, detail), out }
     }
 
     /// The refusal's number, 0 for none.
@@ -41,7 +46,7 @@ impl Answer {
 
     /// Makes a call that is lent a dirty `out`.
     fn of(call: impl FnOnce(*mut u64) -> u64) -> Self {
-        let mut out = [0xdead_beef_dead_beef; 3];
+        let mut out = [0xdead_beef_dead_beef; K];
         let returned = call(out.as_mut_ptr());
         Self { returned, out }
     }
@@ -66,12 +71,20 @@ impl From<Result<u64, Refusal>> for Answer {
     }
 }
 
-impl From<Outcome> for Answer {
+/// A run's with a limit.
+impl From<Outcome> for Answer<4> {
     fn from(read: Outcome) -> Self {
         match read {
-            Outcome::Solved { products, quotients } => Self::fine([products, quotients, 0]),
-            Outcome::Stopped { number, record, table, target } => Self::stopped(number, record, [table, target, 0]),
+            Outcome::Solved { products, quotients } => Self::fine([products, quotients, 0, 0]),
+            Outcome::Stopped { number, record, table, target } => Self::stopped(number, record, [table, target, 0, 0]),
             Outcome::Refused { number, detail } => Self::refused(number, detail),
         }
+    }
+}
+
+/// Release 1's has the first two of the four numbers, and 0.
+impl From<Answer<4>> for Answer {
+    fn from(Answer { returned, out: [first, second, ..] }: Answer<4>) -> Self {
+        Self { returned, out: [first, second, 0] }
     }
 }

@@ -47,12 +47,17 @@ pub fn read(value: f64) -> f64 {
     if value == 0.0 { 0.0 } else { value }
 }
 
+/// Whether a pivot is refused.
+pub fn is_small(pivot: f64, limit: f64) -> bool {
+    pivot.abs() <= limit
+}
+
 /// A start less each product, in order.
 fn less_all(start: f64, products: impl Iterator<Item = (f64, f64)>) -> Result<f64, u32> {
     products.into_iter().try_fold(start, |acc, (a, b)| difference(acc, product(a, b)?))
 }
 
-pub fn dense(n: u32, plan: &[u32], a: &[f64], b: &[f64]) -> Result<Solution, (u32, At)> {
+pub fn dense(n: u32, plan: &[u32], a: &[f64], b: &[f64], limit: f64) -> Result<Solution, (u32, At)> {
     let size = n as usize;
     // row and column 0 are unused
     let mut table = vec![vec![0.0; size + 1]; size + 1];
@@ -66,7 +71,7 @@ pub fn dense(n: u32, plan: &[u32], a: &[f64], b: &[f64]) -> Result<Solution, (u3
         for i in m..=size {
             let at = |number| (number, At::Place(i, m));
             let value = less_all(table[i][m], (1..m).map(|h| (table[i][h], table[h][m]))).map_err(at)?;
-            if i == m && value == 0.0 {
+            if i == m && is_small(value, limit) {
                 return Err(at(17));
             }
             table[i][m] = value;

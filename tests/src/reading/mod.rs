@@ -1,4 +1,4 @@
-//! Document 01 read once more, in plain Rust and by other means than the proved code where there are any.
+//! The documents read once more, in plain Rust and by other means than the proved code where there are any.
 
 pub mod check;
 pub mod dense;

@@ -1,7 +1,7 @@
-//! The run of a program: 7 to 13, 14, 15, then its records, 16 and 17.
+//! The run of a program: 7 to 13, 14, 15, 21, then its records, 16 and 17.
 
 use super::check::check;
-use super::dense::{difference, product, quotient, read};
+use super::dense::{difference, is_small, product, quotient, read};
 
 #[derive(Clone, Copy, Debug, PartialEq, Eq)]
 pub enum Outcome {
@@ -37,7 +37,7 @@ struct Open {
 /// The record that refused, or the counts.
 type Ran = Result<(u64, u64), (u32, u64, u64, u64)>;
 
-fn records(words: &[u32], a: &[f64], b: &[f64], c: &mut [f64], y: &mut [f64], x: &mut [f64]) -> Ran {
+fn records(words: &[u32], a: &[f64], b: &[f64], limit: f64, c: &mut [f64], y: &mut [f64], x: &mut [f64]) -> Ran {
     let (mut products, mut quotients) = (0, 0);
     let mut open = Open::default();
     let mut at = words[3] as usize;
@@ -59,7 +59,7 @@ fn records(words: &[u32], a: &[f64], b: &[f64], c: &mut [f64], y: &mut [f64], x:
                 quotients += 1;
             }
             _ => {
-                if kind == 9 && open.running == 0.0 {
+                if kind == 9 && is_small(open.running, limit) {
                     return Err(stopped(17));
                 }
                 [&mut *c, &mut *y, &mut *x][open.table as usize - 1][open.target - 1] = open.running;
@@ -70,7 +70,7 @@ fn records(words: &[u32], a: &[f64], b: &[f64], c: &mut [f64], y: &mut [f64], x:
     Ok((products, quotients))
 }
 
-pub fn run(words: &[u32], a: &[f64], b: &[f64], c: &mut [f64], y: &mut [f64], x: &mut [f64]) -> Outcome {
+pub fn run(words: &[u32], a: &[f64], b: &[f64], limit: f64, c: &mut [f64], y: &mut [f64], x: &mut [f64]) -> Outcome {
     if let Err((number, detail)) = check(words) {
         return Outcome::Refused { number, detail };
     }
@@ -81,7 +81,10 @@ pub fn run(words: &[u32], a: &[f64], b: &[f64], c: &mut [f64], y: &mut [f64], x:
     if let Some(detail) = not_finite(a).or_else(|| not_finite(b)) {
         return Outcome::Refused { number: 15, detail };
     }
-    match records(words, a, b, c, y, x) {
+    if !(limit.is_finite() && limit >= 0.0) {
+        return Outcome::Refused { number: 21, detail: 0 };
+    }
+    match records(words, a, b, limit, c, y, x) {
         Ok((products, quotients)) => Outcome::Solved { products, quotients },
         Err((number, record, table, target)) => {
             c.fill(0.0);

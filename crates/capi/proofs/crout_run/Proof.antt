@@ -1,6 +1,7 @@
--- `capi::crout_run` gives the number and the numbers of what the run replies.
+-- `capi::crout_run` gives the number and the numbers of what the run replies with limit +0; `ofBits` opens the literal 0.0.
 use native.Mathlib.Omega.{arith}
 use borrow.Author.Needs.{needs}
+use lib.Ieee.{ofBits}
 use Rattle.model.specs.Boundary.{replyNumber, replyNumbers}
 use Rattle.model.proofs.Small.{ran-small}
 use Rattle.capi.proofs.Numbers.{carried, reply-fits}
@@ -19,7 +20,7 @@ run-requires c κs = search needs
 
 run-answer-requires : tie.Need-run-answer-requires
 run-answer-requires c κs =
-    reply-fits (called c .run .ensures .0) (ran-small _ _ _ _ _ _) (omega (arith, entry (called c) .good))
+    reply-fits (called c .run .ensures .0) (ran-small _ _ _ _ _ _ _) (omega (arith, entry (called c) .good))
 
 same-length : tie.Need-same-length
 same-length c = search needs
@@ -31,10 +32,10 @@ same-length-3 : tie.Need-same-length-3
 same-length-3 c = search needs
 
 returns : tie.Need-returns
+unfolding ofBits
 returns c =
-    let call = called (c .before) .run in
-    let numbers = carried replyNumber replyNumbers (call .ensures .0) (c .run-answer .ensures) in
-    (numbers .0, (call .ensures .1 .0, (call .ensures .1 .1 .0, (call .ensures .1 .1 .1, numbers .1))))
+    let end = called (c .before) .run .ensures in
+    (carried replyNumber replyNumbers (end .0) (c .run-answer .ensures), end .1)
 
 pub crout-run-spec : {M : Type 1} → statement M
 crout-run-spec =

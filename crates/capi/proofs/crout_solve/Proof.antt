@@ -1,6 +1,7 @@
--- `capi::crout_solve` gives the number and the numbers of what solving replies.
+-- `capi::crout_solve` gives the number and the numbers of what solving replies with limit +0; `ofBits` opens the literal 0.0.
 use native.Mathlib.Omega.{arith}
 use borrow.Author.Needs.{needs}
+use lib.Ieee.{ofBits}
 use Rattle.model.specs.Boundary.{replyNumber, replyNumbers}
 use Rattle.model.proofs.Small.{replied-small}
 use Rattle.capi.proofs.Numbers.{carried, reply-fits}
@@ -19,7 +20,7 @@ solve-requires c κs = search needs
 
 run-answer-requires : tie.Need-run-answer-requires
 run-answer-requires c κs =
-    reply-fits (called c .solve .ensures .1 .0) (replied-small _ _ _ _ _ _ _ _ _) (omega (arith, entry (called c) .good))
+    reply-fits (called c .solve .ensures .1 .0) (replied-small _ _ _ _ _ _ _ _ _ _) (omega (arith, entry (called c) .good))
 
 same-length : tie.Need-same-length
 same-length c = search needs
@@ -37,11 +38,10 @@ same-length-5 : tie.Need-same-length-5
 same-length-5 c = search needs
 
 returns : tie.Need-returns
+unfolding ofBits
 returns c =
-    let call = called (c .before) .solve in
-    let left = call .ensures .1 .1 in
-    let numbers = carried replyNumber replyNumbers (call .ensures .1 .0) (c .run-answer .ensures) in
-    (numbers .0, (left .0, (left .1 .0, (left .1 .1 .0, (left .1 .1 .1 .0, (left .1 .1 .1 .1, numbers .1))))))
+    let end = called (c .before) .solve .ensures .1 in
+    (carried replyNumber replyNumbers (end .0) (c .run-answer .ensures), end .1)
 
 pub crout-solve-spec : {M : Type 1} → statement M
 crout-solve-spec =

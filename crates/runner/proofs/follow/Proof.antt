@@ -13,16 +13,16 @@ use Rattle.runner.proofs.follow.Statement.{statement}
 use Rattle.runner.proofs.follow.Tie as tie
 
 abbrev Inv-loop2 : tie.InvT-loop2
-Inv-loop2 words a b c₀ y₀ x₀ z₀ next₀ k₀ c y x z next k = SameLengths c₀ y₀ x₀ c y x × (NextRuns words a b c y x z k × ((k ≡ 0 → ⊥) × (k₀ ≤ k)))
+Inv-loop2 words a b limit c₀ y₀ x₀ z₀ next₀ k₀ c y x z next k = SameLengths c₀ y₀ x₀ c y x × (NextRuns words a b limit c y x z k × ((k ≡ 0 → ⊥) × (k₀ ≤ k)))
 
 abbrev μ-loop2 : tie.MeasureT-loop2
-μ-loop2 words a b c₀ y₀ x₀ z₀ next₀ k₀ c y x z next k = length words / 4 - k
+μ-loop2 words a b limit c₀ y₀ x₀ z₀ next₀ k₀ c y x z next k = length words / 4 - k
 
 abbrev Inv-loop : tie.InvT-loop
-Inv-loop words a b c₀ y₀ x₀ z₀ next₀ c y x z next = SameLengths c₀ y₀ x₀ c y x × NextRuns words a b c y x z next
+Inv-loop words a b limit c₀ y₀ x₀ z₀ next₀ c y x z next = SameLengths c₀ y₀ x₀ c y x × NextRuns words a b limit c y x z next
 
 abbrev μ-loop : tie.MeasureT-loop
-μ-loop words a b c₀ y₀ x₀ z₀ next₀ c y x z next = left words next
+μ-loop words a b limit c₀ y₀ x₀ z₀ next₀ c y x z next = left words next
 
 -- Places of the code: the entry, seen from where the first record's index is read; a turn of the inner loop, with the entry before it; where the turn's
 -- step is made; and, seen from where its answer is told, the step of a run that goes on, and of one that stops.
@@ -55,17 +55,17 @@ bounds c =
 
 -- C, Y and X after the step
 abbrev after-c : Stepped → List Float
-after-c c = c .step .last .1 .1 .1 .1 .1 .1 .0
+after-c c = c .step .last .1 .1 .1 .1 .1 .1 .1 .0
 
 abbrev after-y : Stepped → List Float
-after-y c = c .step .last .1 .1 .1 .1 .1 .1 .1 .0
+after-y c = c .step .last .1 .1 .1 .1 .1 .1 .1 .1 .0
 
 abbrev after-x : Stepped → List Float
-after-x c = c .step .last .1 .1 .1 .1 .1 .1 .1 .1 .0
+after-x c = c .step .last .1 .1 .1 .1 .1 .1 .1 .1 .1 .0
 
 -- their lengths are those before it, those at the inner loop's start, and those at the function's entry
 same-step : (c : Stepped) → let l = turn c .loop2 in SameLengths (l .c) (l .y) (l .x) (after-c c) (after-y c) (after-x c)
-same-step c = let kept = c .step .kept .1 .1 .1 .1 .1 .1 in record { of-c = kept .0; of-y = kept .1 .0; of-x = kept .1 .1 .0 }
+same-step c = let kept = c .step .kept .1 .1 .1 .1 .1 .1 .1 in record { of-c = kept .0; of-y = kept .1 .0; of-x = kept .1 .1 .0 }
 
 same-turn : (c : Stepped) → let l = turn c .before .before .loop in SameLengths (l .c) (l .y) (l .x) (after-c c) (after-y c) (after-x c)
 same-turn c = same-lengths-trans (turn c .loop2 .inv .0) (same-step c)
@@ -75,7 +75,7 @@ same-entry c = same-lengths-trans (turn c .before .before .loop .inv .0) (same-t
 
 -- the run goes on after the step
 ran-on : (c : tie.After-known-told Inv-loop2 μ-loop2 Inv-loop μ-loop) → let s = going c in let a = start (turn s) .args in
-    LastRan (a .words .now) (a .a .now) (a .b .now) (after-c s) (after-y s) (after-x s) (c .before .after .given .0 .0) (turn s .loop2 .k)
+    LastRan (a .words .now) (a .a .now) (a .b .now) (a .limit) (after-c s) (after-y s) (after-x s) (c .before .after .given .0 .0) (turn s .loop2 .k)
 ran-on c =
     let s = going c in
     let at = turn s .loop2 .inv .1 in
@@ -97,8 +97,8 @@ loop-holds c =
       record {
         last = 0;
         is = sym (c .wide .ensures);
-        ran = subst (λ z. LastRan (a .words .now) (a .a .now) (a .b .now) (a .c .now) (a .y .now) (a .x .now) z 0) (sym (c .before .before .fresh .ensures))
-            (starts (entry (c .before) .pre));
+        ran = subst (λ z. LastRan (a .words .now) (a .a .now) (a .b .now) (a .limit) (a .c .now) (a .y .now) (a .x .now) z 0)
+            (sym (c .before .before .fresh .ensures)) (starts (entry (c .before) .pre));
       },
     )
 
@@ -111,29 +111,29 @@ mul-at c = omega (arith, bounds c)
 add-following : tie.Need-add-following Inv-loop2 μ-loop2 Inv-loop μ-loop
 add-following c = omega (arith, bounds c)
 
-mul-step : tie.Need-mul-step Inv-loop2 μ-loop2 Inv-loop μ-loop
-mul-step c = omega (arith, bounds c)
+mul-kind : tie.Need-mul-kind Inv-loop2 μ-loop2 Inv-loop μ-loop
+mul-kind c = omega (arith, bounds c)
 
-shared-slice-read-step : tie.Need-shared-slice-read-step Inv-loop2 μ-loop2 Inv-loop μ-loop
-shared-slice-read-step c = omega (arith, bounds (c .before))
+shared-slice-read-kind : tie.Need-shared-slice-read-kind Inv-loop2 μ-loop2 Inv-loop μ-loop
+shared-slice-read-kind c = omega (arith, bounds (c .before))
 
 add-step : tie.Need-add-step Inv-loop2 μ-loop2 Inv-loop μ-loop
 add-step c = omega (arith, bounds (c .before))
 
-mul-step-2 : tie.Need-mul-step-2 Inv-loop2 μ-loop2 Inv-loop μ-loop
-mul-step-2 c = omega (arith, bounds (c .before))
+mul-step : tie.Need-mul-step Inv-loop2 μ-loop2 Inv-loop μ-loop
+mul-step c = omega (arith, bounds (c .before))
 
-shared-slice-read-step-2 : tie.Need-shared-slice-read-step-2 Inv-loop2 μ-loop2 Inv-loop μ-loop
-shared-slice-read-step-2 c = omega (arith, bounds (c .before .before))
+shared-slice-read-step : tie.Need-shared-slice-read-step Inv-loop2 μ-loop2 Inv-loop μ-loop
+shared-slice-read-step c = omega (arith, bounds (c .before .before))
 
 add-step-2 : tie.Need-add-step-2 Inv-loop2 μ-loop2 Inv-loop μ-loop
 add-step-2 c = omega (arith, bounds (c .before .before))
 
-mul-step-3 : tie.Need-mul-step-3 Inv-loop2 μ-loop2 Inv-loop μ-loop
-mul-step-3 c = omega (arith, bounds (c .before .before))
+mul-step-2 : tie.Need-mul-step-2 Inv-loop2 μ-loop2 Inv-loop μ-loop
+mul-step-2 c = omega (arith, bounds (c .before .before))
 
-shared-slice-read-step-3 : tie.Need-shared-slice-read-step-3 Inv-loop2 μ-loop2 Inv-loop μ-loop
-shared-slice-read-step-3 c = omega (arith, bounds (c .before .before .before))
+shared-slice-read-step-2 : tie.Need-shared-slice-read-step-2 Inv-loop2 μ-loop2 Inv-loop μ-loop
+shared-slice-read-step-2 c = omega (arith, bounds (c .before .before .before))
 
 step-requires : tie.Need-step-requires Inv-loop2 μ-loop2 Inv-loop μ-loop
 step-requires c κs =
@@ -213,7 +213,7 @@ returns-2 : tie.Need-returns-2 Inv-loop2 μ-loop2 Inv-loop μ-loop
 returns-2 c =
     let a = entry (c .before .before .before) .args in
     let l = c .before .loop in
-    ended (subst (NextRuns (a .words .now) (a .a .now) (a .b .now) (l .c) (l .y) (l .x) (l .z)) (c .loop-test .left) (l .inv .1))
+    ended (subst (NextRuns (a .words .now) (a .a .now) (a .b .now) (a .limit) (l .c) (l .y) (l .x) (l .z)) (c .loop-test .left) (l .inv .1))
 
 pub follow-spec : {M : Type 1} → statement M
 follow-spec =
@@ -230,14 +230,14 @@ follow-spec =
     loop2-holds
     mul-at
     add-following
+    mul-kind
+    shared-slice-read-kind
+    add-step
     mul-step
     shared-slice-read-step
-    add-step
+    add-step-2
     mul-step-2
     shared-slice-read-step-2
-    add-step-2
-    mul-step-3
-    shared-slice-read-step-3
     step-requires
     enum-known-after
     enum-known-number

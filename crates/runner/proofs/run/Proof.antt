@@ -1,4 +1,4 @@
--- `runner::run`: 7 to 13, then 14, then 15, then the records.
+-- `runner::run`: 7 to 13, then 14, 15 and 21, then the records.
 use native.Mathlib.Omega.{arith}
 use mathlib.Core.Path.{_≡_, sym, ap, _∙_}
 use mathlib.Core.Bool.{true}
@@ -9,12 +9,12 @@ use Rattle.model.specs.Check.{fine, check}
 use Rattle.checker.specs.Checked.{verdictOf}
 use Rattle.runner.specs.Following.{lengthsFit}
 use Rattle.model.proofs.Passing.{fine-passed}
-use Rattle.runner.proofs.Outcomes.{leaves-checked, leaves-14, leaves-15, leaves-records, fit-true}
+use Rattle.runner.proofs.Outcomes.{leaves-checked, leaves-14, leaves-values, leaves-records, fit-true}
 use Rattle.runner.proofs.run.Statement.{statement}
 use Rattle.runner.proofs.run.Tie as tie
 
--- Places of the code: the entry, seen from where 7 to 13 are checked; that place, seen from where they are passed; that one, seen from where 14 is; that
--- one, seen from where 15 is; and the records' answer, seen from the end.
+-- Places of the code: the entry, seen from where 7 to 13 are checked; that place, seen from where they are passed; that one, seen from where 14 is; where
+-- 15 and 21 are checked, seen from where they are passed; and the records' answer, seen from the end.
 abbrev entry : tie.After-check → tie.Start
 entry c = c .before .before .before .before .before .before .before
 
@@ -24,8 +24,8 @@ checked c = c .before .before
 abbrev fine-here : tie.Else1 → tie.After-enum-told
 fine-here c = c .before .before
 
-abbrev fitting : tie.Else2 → tie.Else1
-fitting c = c .before .before
+abbrev valued : tie.After-enum-told2 → tie.After-check-values
+valued c = c .before .before
 
 abbrev ran : tie.After-slice-known6 → tie.After-run-records
 ran c = c .before .before .before .before .before .before
@@ -45,7 +45,7 @@ enum-known-checked : tie.Need-enum-known-checked
 enum-known-checked c = search needs
 
 returns : tie.Need-returns
-returns c = leaves-checked _ _ _ _ _ _ _ _ (sym (c .before .before .before .check .ensures) ∙ ap verdictOf (c .before .checked .given .1))
+returns c = leaves-checked _ _ _ _ _ _ _ _ _ (sym (c .before .before .before .check .ensures) ∙ ap verdictOf (c .before .checked .given .1))
 
 enum-told : tie.Need-enum-told
 enum-told c = search needs
@@ -54,37 +54,44 @@ lengths-fit-requires : tie.Need-lengths-fit-requires
 lengths-fit-requires c κs = omega (arith, fine-passed (entry (checked c) .args .words .now) (fine-now c))
 
 returns-2 : tie.Need-returns-2
-returns-2 c = leaves-14 _ _ _ _ _ _ (fine-now (c .before .before)) (sym (c .before .lengths-fit .ensures) ∙ not-true _ (c .if1 .taken))
+returns-2 c = leaves-14 _ _ _ _ _ _ _ (fine-now (c .before .before)) (sym (c .before .lengths-fit .ensures) ∙ not-true _ (c .if1 .taken))
 
-not-finite-requires : tie.Need-not-finite-requires
-not-finite-requires c κs = search needs
+check-values-requires : tie.Need-check-values-requires
+check-values-requires c κs = search needs
+
+enum-known-values : tie.Need-enum-known-values
+enum-known-values c = search needs
 
 returns-3 : tie.Need-returns-3
 returns-3 c =
-    let fits = c .before .before in
-    leaves-15 _ _ _ _ _ _ (fine-now (fine-here fits)) (fits-now fits) _ (c .before .not-finite .ensures) (c .if2 .taken)
+    let call = c .before .before .before in
+    leaves-values _ _ _ _ _ _ _ (fine-now (fine-here (call .before))) (fits-now (call .before)) _ _
+    (sym (call .check-values .ensures) ∙ ap verdictOf (c .before .values .given .1))
+
+enum-told-2 : tie.Need-enum-told-2
+enum-told-2 c = search needs
 
 run-records-requires : tie.Need-run-records-requires
 run-records-requires c κs =
-    let fits = fitting (c .before .before .before) in
+    let fits = valued (c .before .before .before) .before in
     let a = entry (checked (fine-here fits)) .args in
     fit-true _ (a .a .now) (a .b .now) (a .c .now) (a .y .now) (a .x .now) (fine-now (fine-here fits)) (fits-now fits)
 
 same-length : tie.Need-same-length
-same-length c = ran c .run-records .kept .1 .1 .1 .0
+same-length c = ran c .run-records .kept .1 .1 .1 .1 .0
 
 same-length-2 : tie.Need-same-length-2
-same-length-2 c = ran c .run-records .kept .1 .1 .1 .1 .0
+same-length-2 c = ran c .run-records .kept .1 .1 .1 .1 .1 .0
 
 same-length-3 : tie.Need-same-length-3
-same-length-3 c = ran c .run-records .kept .1 .1 .1 .1 .1 .0
+same-length-3 c = ran c .run-records .kept .1 .1 .1 .1 .1 .1 .0
 
 returns-4 : tie.Need-returns-4
 returns-4 c =
-    let finite = ran c .before .before .before .before in
-    let fits = fitting finite in
-    leaves-records _ _ _ _ _ _ (fine-now (fine-here fits)) (fits-now fits) (sym (finite .before .not-finite .ensures) ∙ finite .if2 .left) _ _ _ _
-    (ran c .run-records .ensures)
+    let told = ran c .before .before .before .before in
+    let call = valued told in
+    leaves-records _ _ _ _ _ _ _ (fine-now (fine-here (call .before))) (fits-now (call .before))
+    (sym (call .check-values .ensures) ∙ ap verdictOf (told .enum-told2 .given .1)) _ _ _ _ (ran c .run-records .ensures)
 
 pub run-spec : {M : Type 1} → statement M
 run-spec =
@@ -96,8 +103,10 @@ run-spec =
     enum-told
     lengths-fit-requires
     returns-2
-    not-finite-requires
+    check-values-requires
+    enum-known-values
     returns-3
+    enum-told-2
     run-records-requires
     same-length
     same-length-2

@@ -4,9 +4,7 @@ use mathlib.Core.Path.{_≡_, _∙_}
 use mathlib.Core.Logic.{_⊎_, ⊎-elim}
 use denote.Enum.Declared.{tagOf}
 use borrow.Author.Needs.{needs}
-use Rattle.model.specs.Check.{word, chain}
-use Rattle.model.specs.Run.{fresh}
-use Rattle.model.proofs.Running.{follow-not-refused}
+use Rattle.model.proofs.Running.{followed-not-refused}
 use Rattle.runner.specs.declared.Outcome.{Outcome}
 use Rattle.runner.specs.declared.Outcome.the-variants.{Solved, Stopped, Refused}
 use Rattle.runner.specs.Outcome.{replyOf}
@@ -47,13 +45,13 @@ enum-told : tie.Need-enum-told
 enum-told c = search needs
 
 same-length : tie.Need-same-length
-same-length c = solved c .follow .kept .1 .1 .1 .0
+same-length c = solved c .follow .kept .1 .1 .1 .1 .0
 
 same-length-2 : tie.Need-same-length-2
-same-length-2 c = solved c .follow .kept .1 .1 .1 .1 .0
+same-length-2 c = solved c .follow .kept .1 .1 .1 .1 .1 .0
 
 same-length-3 : tie.Need-same-length-3
-same-length-3 c = solved c .follow .kept .1 .1 .1 .1 .1 .0
+same-length-3 c = solved c .follow .kept .1 .1 .1 .1 .1 .1 .0
 
 returns : tie.Need-returns
 returns c =
@@ -71,23 +69,22 @@ clear-requires-3 : tie.Need-clear-requires-3
 clear-requires-3 c κs = search needs
 
 same-length-4 : tie.Need-same-length-4
-same-length-4 c = cleared c .clear .kept .0 ∙ stopped (cleared c) .follow .kept .1 .1 .1 .0
+same-length-4 c = cleared c .clear .kept .0 ∙ stopped (cleared c) .follow .kept .1 .1 .1 .1 .0
 
 same-length-5 : tie.Need-same-length-5
-same-length-5 c = c .before .before .before .before .before .before .clear2 .kept .0 ∙ stopped (cleared c) .follow .kept .1 .1 .1 .1 .0
+same-length-5 c = c .before .before .before .before .before .before .clear2 .kept .0 ∙ stopped (cleared c) .follow .kept .1 .1 .1 .1 .1 .0
 
 same-length-6 : tie.Need-same-length-6
-same-length-6 c = c .before .before .clear3 .kept .0 ∙ stopped (cleared c) .follow .kept .1 .1 .1 .1 .1 .0
+same-length-6 c = c .before .before .clear3 .kept .0 ∙ stopped (cleared c) .follow .kept .1 .1 .1 .1 .1 .1 .0
 
 returns-2 : tie.Need-returns-2
 returns-2 c =
     let f = stopped (cleared c) .follow in
     let a = entry (stopped (cleared c) .before) .args in
     let told = solves-not (f .result) (cleared c .before .before .match .keys2) in
-    let not-refused = follow-not-refused (a .a .now) (a .b .now) (fresh (word (a .words .now) 0)) (chain (a .words .now) .links) in
-    let last = f .last .1 .1 .1 in
-    let kept = f .kept .1 .1 .1 in
-    let l = leaves-cleared (a .c .now) (a .y .now) (a .x .now) (last .0) (last .1 .0) (last .1 .1 .0) _ _ told not-refused (f .ensures .0)
+    let last = f .last .1 .1 .1 .1 in
+    let kept = f .kept .1 .1 .1 .1 in
+    let l = leaves-cleared (a .c .now) (a .y .now) (a .x .now) (last .0) (last .1 .0) (last .1 .1 .0) _ _ told (followed-not-refused _) (f .ensures .0)
     (kept .0) (kept .1 .0) (kept .1 .1 .0) in (
       l .0,
       (

@@ -78,7 +78,7 @@ same-length-2 c = search needs
 returns : tie.Need-returns
 returns c =
     let call = refused c .compile .ensures in
-    let e = refused-solves _ _ _ _ _ _ _ _ _ _ _ (sym (call .0) ∙ ap compiledOf (c .before .number .given .1)) in
+    let e = refused-solves _ _ _ _ _ _ _ _ _ _ _ _ (sym (call .0) ∙ ap compiledOf (c .before .number .given .1)) in
     (e .tells, (e .replies, (call .1 .0, (call .1 .1, (e .c-is, (e .y-is, e .x-is))))))
 
 same-length-3 : tie.Need-same-length-3
@@ -103,7 +103,7 @@ returns-2 c =
     let start = entry (accepted wide) .args in
     let call = accepted wide .compile .ensures in
     let run = rw (taken wide) at (ran c .run .ensures) in
-    let e = ran-solves _ _ _ _ _ _ (now (start .c)) (now (start .y)) (now (start .x)) _ _ _ (succeeded wide)
+    let e = ran-solves _ _ _ _ _ _ _ (now (start .c)) (now (start .y)) (now (start .x)) _ _ _ (succeeded wide)
     (known .before .shared-slice-known2 .given) (known .shared-slice-known3 .given) in
     (ap tellsOf (run .0) ∙ e .tells, (run .0 ∙ e .replies, (call .1 .0, (call .1 .1, (run .1 .0 ∙ e .c-is, (run .1 .1 .0 ∙ e .y-is, run .1 .1 .1 ∙ e .x-is))))))
 

@@ -122,8 +122,8 @@ close-requires c κs =
     let s = start (c .before .before .before .before) in
     (s .pre .sound, allowed-as (s .pre) (ap kindOf (c .before .before .before .match .keys8)))
 
-is-zero-requires : tie.Need-is-zero-requires
-is-zero-requires c κs = search needs
+is-small-requires : tie.Need-is-small-requires
+is-small-requires c κs = search needs
 
 close-requires-2 : tie.Need-close-requires-2
 unfolding kindOf
@@ -136,7 +136,7 @@ unfolding kindOf step starting
 returns c =
     let s = start (c .before .before .before) in
     let a = s .args in
-    gives-open (a .a .now) (a .b .now) (a .c .now) (a .y .now) (a .x .now) (a .z) (s .pre .sound) (kindOf (a .kind)) (a .p) (a .q) C (a .q) _ _ refl
+    gives-open (a .a .now) (a .b .now) (a .limit) (a .c .now) (a .y .now) (a .x .now) (a .z) (s .pre .sound) (kindOf (a .kind)) (a .p) (a .q) C (a .q) _ _ refl
     (ap kindOf (c .before .before .match .keys1)) (c .«open» .ensures) (c .before .coefficient .ensures)
 
 returns-2 : tie.Need-returns-2
@@ -144,7 +144,7 @@ unfolding kindOf step starting
 returns-2 c =
     let s = start (c .before .before .before .before) in
     let a = s .args in
-    gives-open (a .a .now) (a .b .now) (a .c .now) (a .y .now) (a .x .now) (a .z) (s .pre .sound) (kindOf (a .kind)) (a .p) (a .q) Y (a .p) _ _ refl
+    gives-open (a .a .now) (a .b .now) (a .limit) (a .c .now) (a .y .now) (a .x .now) (a .z) (s .pre .sound) (kindOf (a .kind)) (a .p) (a .q) Y (a .p) _ _ refl
     (ap kindOf (c .before .before .before .match .keys2)) (c .open2 .ensures) (c .before .read .ensures ∙ ap clean (c .before .before .entry .ensures))
 
 same-length : tie.Need-same-length
@@ -156,7 +156,7 @@ returns-3 c =
     let s = start (c .before .before .before .before) in
     let a = s .args in
     let of = allowed-as (s .pre) (ap kindOf (c .before .before .before .match .keys3)) in
-    gives-open (a .a .now) (a .b .now) (a .c .now) (a .y .now) (a .x .now) (a .z) (s .pre .sound) (kindOf (a .kind)) (a .p) (a .q) X (a .p) _ _ refl
+    gives-open (a .a .now) (a .b .now) (a .limit) (a .c .now) (a .y .now) (a .x .now) (a .z) (s .pre .sound) (kindOf (a .kind)) (a .p) (a .q) X (a .p) _ _ refl
     (ap kindOf (c .before .before .before .match .keys3)) (c .open3 .ensures)
     (c .before .entry2 .ensures ∙ entry-y (a .z) (a .c .now) (a .y .now) (a .x .now) (a .p) of)
 
@@ -169,7 +169,7 @@ returns-4 c =
     let s = start (c .before .before .before .before .before .before) in
     let a = s .args in
     let of = allowed-as (s .pre) (ap kindOf (c .before .before .before .before .before .match .keys4)) in
-    gives-subtract (a .a .now) (a .b .now) (a .c .now) (a .y .now) (a .x .now) (a .z) (s .pre .sound) (kindOf (a .kind)) (a .p) (a .q) C _ _ _
+    gives-subtract (a .a .now) (a .b .now) (a .limit) (a .c .now) (a .y .now) (a .x .now) (a .z) (s .pre .sound) (kindOf (a .kind)) (a .p) (a .q) C _ _ _
     (ap kindOf (c .before .before .before .before .before .match .keys4)) (c .subtract .ensures)
     (c .before .before .before .entry3 .ensures ∙ entry-c (a .z) (a .c .now) (a .y .now) (a .x .now) (a .p) (of .0))
     (c .before .entry4 .ensures ∙ entry-c (a .z) (a .c .now) (a .y .now) (a .x .now) (a .q) (of .1))
@@ -186,7 +186,7 @@ returns-5 c =
     let s = start (c .before .before .before .before .before .before) in
     let a = s .args in
     let of = allowed-as (s .pre) (ap kindOf (c .before .before .before .before .before .match .keys5)) in
-    gives-subtract (a .a .now) (a .b .now) (a .c .now) (a .y .now) (a .x .now) (a .z) (s .pre .sound) (kindOf (a .kind)) (a .p) (a .q) Y _ _ _
+    gives-subtract (a .a .now) (a .b .now) (a .limit) (a .c .now) (a .y .now) (a .x .now) (a .z) (s .pre .sound) (kindOf (a .kind)) (a .p) (a .q) Y _ _ _
     (ap kindOf (c .before .before .before .before .before .match .keys5)) (c .subtract2 .ensures)
     (c .before .before .before .entry5 .ensures ∙ entry-c (a .z) (a .c .now) (a .y .now) (a .x .now) (a .p) (of .0))
     (c .before .entry6 .ensures ∙ entry-y (a .z) (a .c .now) (a .y .now) (a .x .now) (a .q) (of .1))
@@ -203,7 +203,7 @@ returns-6 c =
     let s = start (c .before .before .before .before .before .before) in
     let a = s .args in
     let of = allowed-as (s .pre) (ap kindOf (c .before .before .before .before .before .match .keys6)) in
-    gives-subtract (a .a .now) (a .b .now) (a .c .now) (a .y .now) (a .x .now) (a .z) (s .pre .sound) (kindOf (a .kind)) (a .p) (a .q) X _ _ _
+    gives-subtract (a .a .now) (a .b .now) (a .limit) (a .c .now) (a .y .now) (a .x .now) (a .z) (s .pre .sound) (kindOf (a .kind)) (a .p) (a .q) X _ _ _
     (ap kindOf (c .before .before .before .before .before .match .keys6)) (c .subtract3 .ensures)
     (c .before .before .before .entry7 .ensures ∙ entry-c (a .z) (a .c .now) (a .y .now) (a .x .now) (a .p) (of .0))
     (c .before .entry8 .ensures ∙ entry-x (a .z) (a .c .now) (a .y .now) (a .x .now) (a .q) (s .pre .sound .in-x) (of .1 .0) (of .1 .1))
@@ -217,7 +217,7 @@ returns-7 c =
     let s = start (c .before .before .before .before) in
     let a = s .args in
     let of = allowed-as (s .pre) (ap kindOf (c .before .before .before .match .keys7)) in
-    gives-divide (a .a .now) (a .b .now) (a .c .now) (a .y .now) (a .x .now) (a .z) (s .pre .sound) (kindOf (a .kind)) (a .p) (a .q) _ _
+    gives-divide (a .a .now) (a .b .now) (a .limit) (a .c .now) (a .y .now) (a .x .now) (a .z) (s .pre .sound) (kindOf (a .kind)) (a .p) (a .q) _ _
     (ap kindOf (c .before .before .before .match .keys7)) (c .divide .ensures)
     (c .before .entry9 .ensures ∙ entry-c (a .z) (a .c .now) (a .y .now) (a .x .now) (a .p) of)
 
@@ -239,7 +239,7 @@ returns-8 c =
 returns-9 : tie.Need-returns-9
 unfolding kindOf step
 returns-9 c =
-    rw (c .before .before .match .keys9, sym (c .before .is-zero .ensures) ∙ c .if1 .taken) (refl, tt)
+    rw (c .before .before .match .keys9, sym (c .before .is-small .ensures) ∙ c .if1 .taken) (refl, tt)
 
 same-length-11 : tie.Need-same-length-11
 same-length-11 c = search needs
@@ -255,7 +255,7 @@ unfolding kindOf step
 returns-10 c =
     let close = closed-pivot c .close2 .ensures in
     let tested = closed-pivot c .before .before .before .before in
-    rw (tested .before .before .match .keys9, sym (tested .before .is-zero .ensures) ∙ tested .if1 .left) (ap going (close .0), close .1)
+    rw (tested .before .before .match .keys9, sym (tested .before .is-small .ensures) ∙ tested .if1 .left) (ap going (close .0), close .1)
 
 returns-11 : tie.Need-returns-11
 unfolding step
@@ -263,7 +263,7 @@ returns-11 c =
     let s = start (c .before) in
     let a = s .args in
     let other = c .match .rest in (
-      ap (λ k. step (a .a .now) (a .b .now) (stateOf (a .z) (a .c .now) (a .y .now) (a .x .now)) k (a .p) (a .q))
+      ap (λ k. step (a .a .now) (a .b .now) (a .limit) (stateOf (a .z) (a .c .now) (a .y .now) (a .x .now)) k (a .p) (a .q))
           (sym (no-kind (a .kind) (other .0 .0 .0 .0 .0 .0 .0 .0 .1) (other .0 .0 .0 .0 .0 .0 .0 .1) (other .0 .0 .0 .0 .0 .0 .1) (other .0 .0 .0 .0 .0 .1)
           (other .0 .0 .0 .0 .1) (other .0 .0 .0 .1) (other .0 .0 .1) (other .0 .1) (other .1))),
       s .pre .sound,
@@ -292,7 +292,7 @@ step-spec =
     entry-requires-9
     divide-requires
     close-requires
-    is-zero-requires
+    is-small-requires
     close-requires-2
     returns
     returns-2
