@@ -1,4 +1,4 @@
-//! The exported functions as safe Rust, and an independent reading of document 01 to compare them with.
+//! The exported functions as safe Rust, and an independent reading of the documents to compare them with.
 
 pub mod calls;
 pub mod lent;

@@ -66,7 +66,11 @@ ran₂ A B limit = ran (compiled 2 full₂) A B limit 4 2 2
 abbrev ran₁ : List Float → List Float → Float → Outcome
 ran₁ A B limit = ran (compiled 1 one) A B limit 1 1 1
 
--- the tables of V1 and of V4, and of T2 and T4
+-- the coefficients of T3
+abbrev nearlyEqual : List Float
+nearlyEqual = int 1 ∷ int 1 ∷ int 1 ∷ aboveOne ∷ []
+
+-- the tables of V1 and of V4, and of T2, T3 and T4
 abbrev tables₁ : Tables
 tables₁ = record { order = 2; c = int 2 ∷ int 4 ∷ half ∷ int 2 ∷ []; y = ints (2 ∷ 2 ∷ []); x = ints (1 ∷ 2 ∷ []) }
 
@@ -75,6 +79,14 @@ tables₄ = record { order = 1; c = minusOne ∷ []; y = plusZero ∷ []; x = pl
 
 abbrev halves : Tables
 halves = record { order = 1; c = half ∷ []; y = int 2 ∷ []; x = int 2 ∷ [] }
+
+abbrev nearly : Tables
+nearly = record {
+  order = 2;
+  c = int 1 ∷ int 1 ∷ int 1 ∷ fin false 1 (negsuc 51) ∷ [];
+  y = int 4 ∷ fin false 1 (pos 55) ∷ [];
+  x = fin true 9007199254740991 (pos 2) ∷ fin false 1 (pos 55) ∷ [];
+}
 
 abbrev noughts : Tables
 noughts = record { order = 1; c = smallest ∷ []; y = plusZero ∷ []; x = plusZero ∷ [] }
@@ -95,11 +107,13 @@ pub record Known : Type 0 where
   v3 : (dense 1 one (tiny ∷ []) (huge ∷ []) plusZero ≡ refused 16 Y 1) × (ran₁ (tiny ∷ []) (huge ∷ []) plusZero ≡ stopped 16 4 Y 1)
   v4 : (dense 1 one (minusOne ∷ []) (plusZero ∷ []) plusZero ≡ solved tables₄)
       × (ran₁ (minusOne ∷ []) (plusZero ∷ []) plusZero ≡ solution tables₄ 0 1)
-  -- A.1: a pivot of exactly -t, one just above t, and a second pivot near 0; a limit -0, one that is negative, and one with a value that is not finite
+  -- A.1: a pivot of exactly -t, one just above t, and a second pivot near 0, also without a limit; a limit -0, one that is negative, and one with a
+  -- value that is not finite
   t1 : (dense 1 one (neg half ∷ []) (ints (1 ∷ [])) half ≡ refused 17 C 1) × (ran₁ (neg half ∷ []) (ints (1 ∷ [])) half ≡ stopped 17 2 C 1)
   t2 : (dense 1 one (half ∷ []) (ints (1 ∷ [])) belowHalf ≡ solved halves) × (ran₁ (half ∷ []) (ints (1 ∷ [])) belowHalf ≡ solution halves 0 1)
-  t3 : (dense 2 full₂ (int 1 ∷ int 1 ∷ int 1 ∷ aboveOne ∷ []) (ints (4 ∷ 12 ∷ [])) nano ≡ refused 17 C 4)
-      × (ran₂ (int 1 ∷ int 1 ∷ int 1 ∷ aboveOne ∷ []) (ints (4 ∷ 12 ∷ [])) nano ≡ stopped 17 13 C 4)
+  t3 : (dense 2 full₂ nearlyEqual (ints (4 ∷ 12 ∷ [])) nano ≡ refused 17 C 4)
+      × (ran₂ nearlyEqual (ints (4 ∷ 12 ∷ [])) nano ≡ stopped 17 13 C 4)
+      × (ran₂ nearlyEqual (ints (4 ∷ 12 ∷ [])) plusZero ≡ solution nearly 3 3)
   t4 : (dense 1 one (smallest ∷ []) (plusZero ∷ []) (neg plusZero) ≡ solved noughts)
       × (ran₁ (smallest ∷ []) (plusZero ∷ []) (neg plusZero) ≡ solution noughts 0 1)
   t5 : ran₁ (ints (1 ∷ [])) (ints (1 ∷ [])) (neg smallest) ≡ refusedBy 21 0
@@ -139,7 +153,7 @@ known = record {
   v4 = (refl, refl);
   t1 = (refl, refl);
   t2 = (refl, refl);
-  t3 = (refl, refl);
+  t3 = (refl, refl, refl);
   t4 = (refl, refl);
   t5 = refl;
   t6 = refl;
