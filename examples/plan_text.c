@@ -166,28 +166,32 @@ static int read_set(struct reading *reading, char *rest) {
     return line_ends(reading, rest);
 }
 
-static int read_right(struct reading *reading, char *rest) {
+/* The set that a line adds to; NULL, reported, if there is none yet. */
+static struct value_set *set_for(const struct reading *reading, const char *what) {
     struct value_set *set = last_set(reading->text);
     if (set == NULL)
-        return fault(reading, reading->line, "a right side belongs to values, and there are none yet");
+        fault(reading, reading->line, "%s values, and there are none yet", what);
+    return set;
+}
+
+static int read_right(struct reading *reading, char *rest) {
+    struct value_set *set = set_for(reading, "a right side belongs to");
+    if (set == NULL)
+        return 0;
     begin_list(reading, &set->right, reading->text->order);
     return line_ends(reading, rest);
 }
 
 static int read_limit(struct reading *reading, char *rest) {
-    struct value_set *set = last_set(reading->text);
-    if (set == NULL)
-        return fault(reading, reading->line, "a limit belongs to values, and there are none yet");
+    struct value_set *set = set_for(reading, "a limit belongs to");
     begin_list(reading, NULL, 0);
-    return read_number(reading, next_word(&rest), &set->limit) && line_ends(reading, rest);
+    return set != NULL && read_number(reading, next_word(&rest), &set->limit) && line_ends(reading, rest);
 }
 
 static int read_expected(struct reading *reading, char *rest) {
-    struct value_set *set = last_set(reading->text);
-    if (set == NULL)
-        return fault(reading, reading->line, "a refusal is expected of values, and there are none yet");
+    struct value_set *set = set_for(reading, "a refusal is expected of");
     begin_list(reading, NULL, 0);
-    return read_whole(reading, next_word(&rest), &set->expected) && line_ends(reading, rest);
+    return set != NULL && read_whole(reading, next_word(&rest), &set->expected) && line_ends(reading, rest);
 }
 
 static int read_numbers(struct reading *reading, const char *word, char *rest) {

@@ -14,7 +14,7 @@ use Rattle.model.specs.File.{Filed, filed}
 use Rattle.model.specs.Boundary.{verdictNumber, compiledNumber, filedNumber, replyNumber, replyNumbers, limitNumbers}
 use Rattle.model.proofs.Small.{SmallVerdict, SmallCompiled, SmallFiled, SmallReply}
 
--- an answer's number and its three numbers are those of what it equals: of the case that a match found, or of the model's value
+-- an answer's number and its further numbers are those of what it equals: of the case that a match found, or of the model's value
 pub carried : {A : Type 0} (number : A → ℕ) (numbers : A → List ℕ) {a b : A} {r : ℕ} {out : List ℕ}
     → a ≡ b → (r ≡ number a) × (out ≡ numbers a) → (r ≡ number b) × (out ≡ numbers b)
 carried number numbers same (r, out) = (r ∙ ap number same, out ∙ ap numbers same)
