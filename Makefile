@@ -1,4 +1,4 @@
-# make demo      the examples: three texts compiled, filed, checked and run
+# make demo      the examples: four texts compiled, filed, checked and run
 # make pictures  docs/pictures, drawn anew
 # make test      the gate
 # make bench     the exported functions beside plain Rust
@@ -20,6 +20,7 @@ demo: build/sheet
 	build/sheet examples/document002.txt build/document002.crout
 	build/sheet examples/heating.txt build/heating.crout
 	build/sheet examples/nearly_equal.txt build/nearly_equal.crout
+	build/sheet examples/looks_cut_off.txt build/looks_cut_off.crout
 
 pictures: docs/pictures/document002.svg docs/pictures/grid.svg
 

@@ -140,8 +140,9 @@ uint64_t crout_read(const uint8_t *bytes, size_t bytes_len, uint32_t *words, siz
 
 /* Runs a program on coefficients a and a right side b. c, y and x take the tables and the solution. A pivot l is refused by 17
    where -limit <= l <= limit; 0 refuses zero alone.
-   out: products, quotients, 0, 0; after 16 and 17 the table (1 for C, 2 for Y, 3 for X), the target's number, 0, 0; the detail is then
-   the record. Refusals 7 to 17 and 21. */
+   out: products, quotients, products that vanished, 0; after 16 and 17 the table (1 for C, 2 for Y, 3 for X), the target's number, 0, 0;
+   the detail is then the record. A product vanishes where it is zero and neither of its factors is: if any did, a zero in x may be a
+   number too small for a double, and scaled equations may show it. Refusals 7 to 17 and 21. */
 uint64_t crout_run_limit(const uint32_t *words, size_t words_len, const double *a, size_t a_len, const double *b, size_t b_len,
                          double limit, double *c, size_t c_len, double *y, size_t y_len, double *x, size_t x_len, uint64_t out[4]);
 

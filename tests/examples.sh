@@ -63,6 +63,7 @@ says 'x = 1 2, 3 products' 0 $at/small
 same tests/examples/document002.out 0 $at/sheet examples/document002.txt $at/document002.crout
 same tests/examples/heating.out 0 $at/sheet examples/heating.txt $at/heating.crout
 same tests/examples/nearly_equal.out 0 $at/sheet examples/nearly_equal.txt $at/nearly_equal.crout
+same tests/examples/looks_cut_off.out 0 $at/sheet examples/looks_cut_off.txt $at/looks_cut_off.crout
 same tests/examples/endings.out 1 $at/sheet tests/examples/endings.txt $at/endings.crout
 same tests/examples/missing.out 1 $at/sheet tests/examples/missing.txt $at/refused.crout
 same tests/examples/twice.out 1 $at/sheet tests/examples/twice.txt $at/refused.crout

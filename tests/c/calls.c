@@ -179,17 +179,18 @@ static uint64_t ran_limit(uint32_t n, const double *a, const double *b, double l
     returned = crout_run_limit(words, 4 * (size_t)compiler[2], a, n * n, b, n, limit, c, c_len, y, n, x, n, out);
     expect(solved == returned && memcmp(solved_out, out, sizeof solved_out) == 0, "solve answers as run does");
     expect(memcmp(solved_x, x, sizeof x) == 0, "solve leaves the same X");
-    expect(out[2] == 0 && out[3] == 0, "the last two numbers");
+    expect(out[3] == 0 && (returned == 0 || out[2] == 0), "the last two numbers");
     return returned;
 }
 
-/* The same without a limit, by the calls that take none: they return what those with limit 0 do. */
+/* The same without a limit, by the calls that take none: they return what those with limit 0 do, and no count of products that vanished. */
 static uint64_t ran(uint32_t n, const double *a, const double *b, size_t c_len, uint64_t out[3]) {
     const uint32_t plan[] = {1, 2, 3, 4};
     uint64_t limit_out[4], solved_out[3], returned, solved;
     const uint64_t limited = ran_limit(n, a, b, 0, c_len, limit_out);
     double limited_x[6];
     memcpy(limited_x, x, sizeof x);
+    limit_out[2] = 0;
     dirty();
     solved = crout_solve(n, plan, n * n, a, n * n, b, n, work, COUNT(work), words, COUNT(words), c, c_len, y, n, x, n, solved_out);
     expect(solved == limited && memcmp(solved_out, limit_out, sizeof solved_out) == 0, "solve answers as with limit 0");
@@ -243,6 +244,17 @@ static void limits(void) {
     expect(ran_limit(2, nearly_equal, b, 0, 4, out) == 0 && same_numbers(out, 3, 3, 0), "the same with limit 0");
 }
 
+static void vanished(void) {
+    const double tiny = 0x1p-1000, weak[] = {1, 1e-200, 1e-200, 1}, ones[] = {1, 1};
+    const double weaker[] = {1, tiny, tiny, 1}, small[] = {tiny, tiny};
+    const double strong[] = {1e300, 0, -1e-300, 1}, b[] = {1e-300, 1}, strong_x[] = {0, 1};
+    uint64_t out[4];
+    expect(ran_limit(2, weak, ones, 0, 4, out) == 0 && same_numbers(out, 3, 3, 1) && same_values(x, ones, 2), "1e-200 squared");
+    expect(ran_limit(2, weaker, small, 0, 4, out) == 0 && same_numbers(out, 3, 3, 3) && same_values(x, small, 2), "one in C, Y and X each");
+    expect(ran_limit(2, strong, b, 0, 4, out) == 0 && same_numbers(out, 3, 3, 0) && same_values(x, strong_x, 2), "quotients that underflow");
+    expect(ran(2, weaker, small, 4, out) == 0 && same_numbers(out, 3, 3, 0), "release 1's calls don't tell");
+}
+
 static void document_002(void) {
     const double a[12] = {7, 2, -3, -3, -1, 8, -1, 1, 5, -2, 4, 6}, b[6] = {-11, 38, 0, 13, 11, -22};
     const double published[6] = {-1, 5, 0, 2, 4, -3};
@@ -270,6 +282,7 @@ int main(void) {
 #if GROUPS >= 4
     run();
     limits();
+    vanished();
     document_002();
 #endif
     return 0;

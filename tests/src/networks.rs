@@ -114,12 +114,21 @@ pub enum Values {
     SignedZeros,
     Subnormal,
     NearOverflow,
+    /// Of any size from 1e-300 to 1e300: many products vanish.
+    Wide,
     /// Each of any of the others, or of any finite bits.
     Mixed,
 }
 
-pub const VALUES: [Values; 6] =
-    [Values::Moderate, Values::SmallIntegers, Values::SignedZeros, Values::Subnormal, Values::NearOverflow, Values::Mixed];
+pub const VALUES: [Values; 7] = [
+    Values::Moderate,
+    Values::SmallIntegers,
+    Values::SignedZeros,
+    Values::Subnormal,
+    Values::NearOverflow,
+    Values::Wide,
+    Values::Mixed,
+];
 
 fn signed(magnitude: f64, random: &mut Random) -> f64 {
     if random.chance(0.5) { magnitude } else { -magnitude }
@@ -152,9 +161,10 @@ impl Values {
                 let exponent = 0x7fe - random.below(3) as u64;
                 f64::from_bits(random.next() << 63 | exponent << 52 | random.next() >> 12)
             }
-            Values::Mixed => match random.below(VALUES.len()) {
-                5 => any_finite(random),
-                k => VALUES[k].one(random),
+            Values::Wide => signed(10f64.powf(600.0 * random.unit() - 300.0), random),
+            Values::Mixed => match VALUES[random.below(VALUES.len())] {
+                Values::Mixed => any_finite(random),
+                values => values.one(random),
             },
         }
     }

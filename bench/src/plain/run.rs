@@ -4,7 +4,7 @@ use super::check::check_words;
 
 #[derive(Clone, Copy, Debug, PartialEq, Eq)]
 pub enum Outcome {
-    Solved { products: u64, quotients: u64 },
+    Solved { products: u64, quotients: u64, vanished: u64 },
     Stopped { number: u32, record: u64, table: u64, target: u64 },
     Refused { number: u32, detail: u64 },
 }
@@ -34,10 +34,10 @@ pub fn run(words: &[u32], a: &[f64], b: &[f64], limit: f64, c: &mut [f64], y: &m
 }
 
 /// The records along the chain. A zero is made +0 by adding +0. The running number is never -0, so neither is it less a product,
-/// and a product that isn't finite gives a difference that isn't.
+/// and a product that isn't finite gives a difference that isn't. The factors are asked about only where a product is zero.
 fn follow(words: &[u32], a: &[f64], b: &[f64], limit: f64, c: &mut [f64], y: &mut [f64], x: &mut [f64]) -> Outcome {
     let (mut running, mut table, mut target) = (0.0, 0, 0);
-    let (mut products, mut quotients) = (0, 0);
+    let (mut products, mut quotients, mut vanished) = (0, 0, 0);
     let mut at = words[3] as usize;
     while at != 0 {
         let record = &words[4 * at..4 * at + 4];
@@ -62,11 +62,15 @@ fn follow(words: &[u32], a: &[f64], b: &[f64], limit: f64, c: &mut [f64], y: &mu
                     5 => y[q - 1],
                     _ => x[q - 1],
                 };
-                running -= c[p - 1] * factor;
+                let product = c[p - 1] * factor;
+                running -= product;
                 if !running.is_finite() {
                     return stopped(16);
                 }
                 products += 1;
+                if product == 0.0 && c[p - 1] != 0.0 && factor != 0.0 {
+                    vanished += 1;
+                }
             }
             7 => {
                 if c[p - 1] == 0.0 {
@@ -91,5 +95,5 @@ fn follow(words: &[u32], a: &[f64], b: &[f64], limit: f64, c: &mut [f64], y: &mu
         }
         at = record[3] as usize;
     }
-    Outcome::Solved { products, quotients }
+    Outcome::Solved { products, quotients, vanished }
 }

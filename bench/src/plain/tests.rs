@@ -79,7 +79,7 @@ fn bits(tables: &[Vec<f64>; 3]) -> Vec<u64> {
 fn outcome(read: reading::run::Outcome) -> run::Outcome {
     use reading::run::Outcome::*;
     match read {
-        Solved { products, quotients } => run::Outcome::Solved { products, quotients },
+        Solved { products, quotients, vanished } => run::Outcome::Solved { products, quotients, vanished },
         Stopped { number, record, table, target } => run::Outcome::Stopped { number, record, table, target },
         Refused { number, detail } => run::Outcome::Refused { number, detail },
     }

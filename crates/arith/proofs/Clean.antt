@@ -1,7 +1,7 @@
 -- How the code reads, tests and settles: +0 added to a value reads it, a sum with a value that was read is never -0 (both of values that the format holds), and
 -- x - x tells a number.
 use mathlib.Core.Path.{_≡_, refl, sym, ap, _∙_}
-use mathlib.Core.Bool.{Bool, true, false, not, cond, _&&_, and-false, Bool·beq}
+use mathlib.Core.Bool.{Bool, true, false, not, cond, _&&_, and-false, false≢true, true≢false, Bool·beq}
 use Prim.Native.Nat.{ℕ, zero, suc, _+_, _-_, _*_, _/_, _%_, _^_, _≤_, _<_, zero-le, compare}
 use native.Mathlib.Nat.{le-refl, lt-of-lt-of-le, lt-of-not-le, add-zero, sub-zero, sub-self, zero-mul, zero-lt-suc}
 use native.Mathlib.Nat.{mul-pos, mul-le-mul-right, lt-of-mul-lt-mul-right, div-mul-le-self, le-div-iff-mul-le}
@@ -10,13 +10,13 @@ use borrow.Author.Tests.{ltb-true, ltb-false, lt-ltb, le-ltb, ne-eqb}
 use lib.IntN.{ℤ, pos}
 use lib.Dec.{T, ltb}
 use lib.Pow.{pow-pos, pow-mono}
-use lib.Ieee.{Float, nan, inf, fin, Format, binary32, binary64, prec, emax, low, up, down, size, odd, units, round, sum, add, sub, le, eq, fits}
+use lib.Ieee.{Float, nan, inf, fin, Format, binary32, binary64, prec, emax, low, up, down, size, odd, units, round, sum, add, sub, mul, neg, le, lt, eq, fits}
 use lib.Ieee.Digits.{size-lt, size-reaches}
-use lib.Ieee.Fits.{two, up-pos, down-pos, round-is}
+use lib.Ieee.Fits.{two, up-pos, down-pos, round-is, neg-fits}
 use lib.Ieee.Exact.{HasValue, odd-sign}
 use lib.Ieee.Nearest.{closest, nearest-ge}
 use lib.Ieee.Scale.{round-same}
-use Rattle.model.specs.Arith.{plusZero, number, overflow, clean, settled, isZero, isFinite, difference, next}
+use Rattle.model.specs.Arith.{plusZero, number, overflow, clean, settled, isZero, isFinite, difference, vanishes, next}
 use Rattle.model.proofs.Arith.{bounds, in-units, round-held}
 
 -- a value that is read as it stands
@@ -147,7 +147,7 @@ add-clean f (fin s m d) (fin t (suc n) e) p q =
     (mul-pos (down-pos d) (down-pos e)) (mul-pos (mul-pos (zero-lt-suc n) (up-pos e)) (down-pos d))
     (omega (arith, ap (λ (z : ℕ). z * down e) x)) (omega (arith, ap (λ (z : ℕ). z * down d) y)))
 
--- ---- the two tests
+-- ---- the tests
 
 cancels : (f : Format) (s : Bool) (a c : ℕ) → 0 < c → sum f s a (not s) a c ≡ plusZero
 unfolding sum
@@ -173,6 +173,23 @@ zero-test (fin s (suc m) e) =
     let some : suc m * up e * 1 ≡ 0 → ⊥ = λ z. omega (arith, z, mul-pos (zero-lt-suc m) (up-pos e)) in
     rw (zero-mul (down e), ne-eqb (suc m * up e * 1) 0 some)
 
+-- what is below or above +0 is no zero
+pub below-nonzero : (x : Float) → lt x plusZero ≡ true → isZero x ≡ false
+unfolding lt isZero
+below-nonzero nan e = refl
+below-nonzero (inf s) e = refl
+below-nonzero (fin true zero d) e = absurd (false≢true (simp zero-mul at e))
+below-nonzero (fin false zero d) e = absurd (false≢true (simp zero-mul at e))
+below-nonzero (fin s (suc m) d) e = refl
+
+pub above-nonzero : (x : Float) → lt plusZero x ≡ true → isZero x ≡ false
+unfolding lt isZero
+above-nonzero nan e = refl
+above-nonzero (inf s) e = refl
+above-nonzero (fin true zero d) e = absurd (false≢true e)
+above-nonzero (fin false zero d) e = absurd (false≢true (simp zero-mul at e))
+above-nonzero (fin s (suc m) d) e = refl
+
 -- ---- answers
 
 -- what was read of a result is its answer, if it is a number
@@ -186,12 +203,15 @@ settles v x e = ap (λ (w : Float). cond (isFinite w) (number w) overflow) e ∙
     at (fin s zero e) = refl
     at (fin s (suc m) e) = refl
 
+clean-add-zero : (x : Float) (t : Bool) (e : ℤ) → T (fits binary64 x) → clean (add binary64 x (fin t zero e)) ≡ clean x
+unfolding clean add
+clean-add-zero nan t e h = refl
+clean-add-zero (inf s) t e h = refl
+clean-add-zero (fin s zero d) t e h = ap clean (add-zeros binary64 s t d e)
+clean-add-zero (fin s (suc m) d) t e h = ap clean (add-zero-held binary64 s t m d e h)
+
 settled-add-zero : (x : Float) (t : Bool) (e : ℤ) → T (fits binary64 x) → settled (add binary64 x (fin t zero e)) ≡ settled x
-unfolding settled add
-settled-add-zero nan t e h = refl
-settled-add-zero (inf s) t e h = refl
-settled-add-zero (fin s zero d) t e h = ap settled (add-zeros binary64 s t d e)
-settled-add-zero (fin s (suc m) d) t e h = ap settled (add-zero-held binary64 s t m d e h)
+settled-add-zero x t e h = sym (settles (clean x) _ (sym (clean-add-zero x t e h))) ∙ settles (clean x) x refl
 
 -- a difference with a rounded product settles both at once
 pub difference-settles : (x p : Float) → T (fits binary64 x) → difference x p ≡ next (settled p) (difference x)
@@ -204,3 +224,59 @@ difference-settles (inf s) (inf t) h = elim (Bool·beq s (not t)) as (λ b. sett
 difference-settles (fin s m e) (inf t) h = refl
 difference-settles x (fin s zero e) h = settled-add-zero x (not s) e h ∙ sym (settled-add-zero x true (pos 0) h)
 difference-settles x (fin s (suc m) e) h = refl
+
+neg-clean : (p : Float) → isZero p ≡ false → Clean (neg p)
+unfolding isZero clean neg
+neg-clean nan z = refl
+neg-clean (inf s) z = refl
+neg-clean (fin s zero e) z = absurd (true≢false z)
+neg-clean (fin s (suc m) e) z = refl
+
+-- a difference with what is no zero is read as it is
+pub difference-clean : (x p : Float) → T (fits binary64 x) → T (fits binary64 p) → isZero p ≡ false → sub binary64 x p ≡ clean (sub binary64 x p)
+unfolding sub
+difference-clean x p h q z = ap (add binary64 x) (sym (neg-clean p z)) ∙ add-clean binary64 x (neg p) h (neg-fits binary64 p q)
+
+-- ---- products that vanish
+
+-- a product that isn't zero doesn't vanish
+pub nonzero-kept : (a b : Float) → isZero (mul binary64 a b) ≡ false → vanishes a b ≡ false
+unfolding vanishes
+nonzero-kept a b z = simp (z, and-false)
+
+finite-clean : (x : Float) → isFinite (clean x) ≡ isFinite x
+unfolding isFinite clean
+finite-clean nan = refl
+finite-clean (inf s) = refl
+finite-clean (fin s zero e) = refl
+finite-clean (fin s (suc m) e) = refl
+
+finite-zero : (x : Float) → isZero x ≡ true → isFinite x ≡ true
+unfolding isFinite isZero
+finite-zero nan z = z
+finite-zero (inf s) z = z
+finite-zero (fin s m e) z = refl
+
+finite-minus-zero : (x p : Float) → T (fits binary64 x) → isZero p ≡ true → isFinite (clean (sub binary64 x p)) ≡ isFinite x
+unfolding sub isZero
+finite-minus-zero x (fin s zero e) h z = ap isFinite (clean-add-zero x (not s) e h) ∙ finite-clean x
+finite-minus-zero x (fin s (suc m) e) h z = absurd (false≢true z)
+finite-minus-zero x (inf s) h z = absurd (false≢true z)
+finite-minus-zero x nan h z = absurd (false≢true z)
+
+-- tests that agree where a product is zero agree beside one that vanishes
+beside-vanished : (a b : Float) (p q : Bool) → (isZero (mul binary64 a b) ≡ true → p ≡ q) → (p && vanishes a b) ≡ (q && vanishes a b)
+beside-vanished a b p q same = by (isZero (mul binary64 a b)) refl
+  where
+    by : (z : Bool) → isZero (mul binary64 a b) ≡ z → (p && vanishes a b) ≡ (q && vanishes a b)
+    by true e = rw (same e)
+    by false e = rw (nonzero-kept a b e, and-false p, and-false q)
+
+-- so what reads a product tells wherever it vanishes,
+pub product-tells : (v a b : Float) → v ≡ clean (mul binary64 a b) → (isFinite v && vanishes a b) ≡ vanishes a b
+product-tells v a b e = beside-vanished a b (isFinite v) true (λ z. ap isFinite e ∙ finite-clean _ ∙ finite-zero (mul binary64 a b) z)
+
+-- and a difference with it wherever it is taken from a number
+pub less-tells : (v x a b : Float) → T (fits binary64 x) → v ≡ clean (sub binary64 x (mul binary64 a b))
+    → (isFinite v && vanishes a b) ≡ (isFinite x && vanishes a b)
+less-tells v x a b h e = beside-vanished a b (isFinite v) (isFinite x) (λ z. ap isFinite e ∙ finite-minus-zero x (mul binary64 a b) h z)

@@ -1,14 +1,15 @@
-// One float operation, and how a value is read: document 01, "Dense Crout" and "Running"; document 02, A.1.
+// One float operation, and how a value is read: document 01, "Dense Crout" and "Running"; document 02, A.1 and A.5.
 // Each result is compared with the definition's bit for bit.
 ghost use mathlib.Core.Path.{_≡_};
-ghost use mathlib.Core.Bool.{cond};
+ghost use mathlib.Core.Bool.{false, cond, _&&_};
 ghost use Rattle.model.specs.Arith as model;
 ghost use Rattle.model.specs.Formula as formula;
-ghost use Rattle.arith.specs.Answer.{answerOf};
+ghost use Rattle.arith.specs.Answer.{answerOf, hasVanished};
 
-// What one operation gives.
+// What one operation gives. A number that a product of two nonzero factors went into as zero has a case of its own: that product vanished.
 pub enum Operation {
     Number(f64),
+    Vanished(f64),
     Overflow,
     ZeroDivisor,
 }
@@ -50,7 +51,8 @@ pub fn read(value: f64) -> f64
 
 // A result that was read, as an answer.
 fn answer(value: f64) -> Operation
-    ensures { λ r. ⌜ answerOf r ≡ cond (model.isFinite value) (model.number value) model.overflow ⌝ }
+    ensures answer { λ r. ⌜ answerOf r ≡ cond (model.isFinite value) (model.number value) model.overflow ⌝ }
+    ensures vanished { λ r. ⌜ hasVanished r ≡ false ⌝ }
 {
     if is_finite(value) {
         Operation::Number(value)
@@ -59,21 +61,51 @@ fn answer(value: f64) -> Operation
     }
 }
 
-pub fn product(a: f64, b: f64) -> Operation
-    ensures { λ r. ⌜ answerOf r ≡ model.product a b ⌝ }
+// Whether two factors that are not zero give zero. They are asked about only where their product is zero, which is rare.
+fn vanishes(a: f64, b: f64) -> bool
+    ensures { λ r. ⌜ r ≡ model.vanishes a b ⌝ }
 {
-    answer(read(a * b))
+    if is_zero(a * b) {
+        !is_zero(a) && !is_zero(b)
+    } else {
+        false
+    }
+}
+
+// A result that was read and into which the product of a and b went, as an answer.
+fn product_answer(value: f64, a: f64, b: f64) -> Operation
+    ensures answer { λ r. ⌜ answerOf r ≡ cond (model.isFinite value) (model.number value) model.overflow ⌝ }
+    ensures vanished { λ r. ⌜ hasVanished r ≡ (model.isFinite value && model.vanishes a b) ⌝ }
+{
+    if is_finite(value) {
+        if vanishes(a, b) {
+            Operation::Vanished(value)
+        } else {
+            Operation::Number(value)
+        }
+    } else {
+        Operation::Overflow
+    }
+}
+
+pub fn product(a: f64, b: f64) -> Operation
+    ensures answer { λ r. ⌜ answerOf r ≡ model.product a b ⌝ }
+    ensures vanished { λ r. ⌜ hasVanished r ≡ model.vanishes a b ⌝ }
+{
+    product_answer(read(a * b), a, b)
 }
 
 // Only -0 - +0 is -0, so reading -b spares the result: a chain of differences waits for one addition each.
 pub fn difference(a: f64, b: f64) -> Operation
-    ensures { λ r. ⌜ answerOf r ≡ model.difference a b ⌝ }
+    ensures answer { λ r. ⌜ answerOf r ≡ model.difference a b ⌝ }
+    ensures vanished { λ r. ⌜ hasVanished r ≡ false ⌝ }
 {
     answer(a + read(-b))
 }
 
 pub fn quotient(a: f64, b: f64) -> Operation
-    ensures { λ r. ⌜ answerOf r ≡ model.quotient a b ⌝ }
+    ensures answer { λ r. ⌜ answerOf r ≡ model.quotient a b ⌝ }
+    ensures vanished { λ r. ⌜ hasVanished r ≡ false ⌝ }
 {
     if is_zero(b) {
         Operation::ZeroDivisor
@@ -83,9 +115,16 @@ pub fn quotient(a: f64, b: f64) -> Operation
 }
 
 // A product and a difference with it, settled at once: no difference with an infinity or a NaN is a
-// number, and a zero of either sign leaves the same.
+// number, and a zero of either sign leaves the same. A product that is neither zero nor a NaN does not
+// vanish, and a difference with it is never -0, so it passes with one test more.
 pub fn less(acc: f64, a: f64, b: f64) -> Operation
-    ensures { λ r. ⌜ answerOf r ≡ formula.less acc a b ⌝ }
+    ensures answer { λ r. ⌜ answerOf r ≡ formula.less acc a b ⌝ }
+    ensures vanished { λ r. ⌜ hasVanished r ≡ (model.isFinite acc && model.vanishes a b) ⌝ }
 {
-    difference(acc, a * b)
+    let product = a * b;
+    if product < 0.0 || 0.0 < product {
+        answer(acc - product)
+    } else {
+        product_answer(acc + read(-product), a, b)
+    }
 }

@@ -88,8 +88,8 @@ pub extern "C" fn crout_read(bytes: &[u8], words: &mut [u32], out: &mut [u64; 3]
     file_answer(codec::read_file(bytes, words), out)
 }
 
-// Runs a program: a pivot l is refused where -limit <= l <= limit. out: products, quotients, 0, 0; after 16 and 17 the table, the target's
-// number, 0, 0.
+// Runs a program: a pivot l is refused where -limit <= l <= limit. out: products, quotients, products that vanished, 0; after 16 and 17 the
+// table, the target's number, 0, 0.
 #[no_mangle]
 pub extern "C" fn crout_run_limit(
     words: &[u32],

@@ -44,7 +44,7 @@ module _ {N : ℕ} {L : Plan} {A B : List Float} {limit : Float} (accepted : Acc
 
   shows : (e : Ended) → dense N L A B limit ≡ e → shown (productCount N L) (N + above N L) (squeezed N L e) ≡ compressed N L e
   unfolding shown squeezed compressed
-  shows (solved t) e = ap (λ u. whole u (productCount N L) (N + above N L)) (solved-packed given t e)
+  shows (solved t g) e = ap (λ u. whole u (productCount N L) (N + above N L) g) (solved-packed given t g e)
   shows (refused r C k) e = refl
   shows (refused r Y k) e = refl
   shows (refused r X k) e = refl

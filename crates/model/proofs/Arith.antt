@@ -1,7 +1,7 @@
 -- The laws of one float operation, for every finite value that binary64 holds and that isn't -0: what +0 does to it, and that every number answered is such a
 -- value again. Everything above uses these laws and never `round`.
 use mathlib.Core.Path.{_≡_, refl, sym, ap, _∙_}
-use mathlib.Core.Bool.{Bool, true, false, cond, _&&_, true≢false, false≢true}
+use mathlib.Core.Bool.{Bool, true, false, not, cond, _&&_, true≢false, false≢true, Bool·beq}
 use Prim.Native.Nat.{ℕ, zero, suc, _+_, _-_, _*_, _/_, _%_, _^_, _≤_, _<_}
 use native.Mathlib.Nat.{zero-add, add-zero, sub-zero, zero-mul, mul-zero, mul-one, one-mul}
 use native.Mathlib.Nat.{mul-pos, mul-lt-mul-of-pos-right, lt-of-mul-lt-mul-right, zero-lt-suc}
@@ -18,7 +18,8 @@ use lib.Ieee.Fits.{up-pos, down-pos, round-fits, mul-fits, sub-fits, div-fits}
 use lib.Ieee.Nearest.{div-same}
 use lib.Ieee.Scale.{round-same}
 use Rattle.model.specs.Arith.{plusZero, Answer, number, overflow, zeroDivisor, clean, settled, isZero, isFinite, isSmall, isLimit}
-use Rattle.model.specs.Arith.{product, difference, quotient}
+use Rattle.model.specs.Arith.{product, difference, quotient, vanishes, next}
+use Rattle.model.specs.Formula.{less}
 
 -- a finite value of binary64 that isn't -0
 pub data Good : Float → Type 0 where
@@ -202,3 +203,45 @@ small-zero (fin false (suc m) e) =
 small-zero (fin true (suc m) e) =
     let p = some-units m e in
     simp (zero-mul, le-ltb (suc m * up e * 1) 0 (omega arith), ne-eqb 0 (suc m * up e * 1) (λ z. omega arith))
+
+-- ---- products that vanish
+
+-- a product with a factor +0 doesn't vanish
+pub vanishes-left : (b : Float) → vanishes plusZero b ≡ false
+unfolding vanishes isZero
+vanishes-left b = refl
+
+pub vanishes-right : (a : Float) → vanishes a plusZero ≡ false
+unfolding vanishes isZero
+vanishes-right nan = refl
+vanishes-right (inf s) = refl
+vanishes-right (fin s zero e) = refl
+vanishes-right (fin s (suc m) e) = refl
+
+isNumber : Answer → Bool
+isNumber (number v) = true
+isNumber overflow = false
+isNumber zeroDivisor = false
+
+-- a difference that is a number is taken from one,
+difference-finite : (a b : Float) → isNumber (difference a b) ≡ true → isFinite a ≡ true
+unfolding isNumber difference sub settled isFinite
+difference-finite nan b e = e
+difference-finite (inf s) nan e = e
+difference-finite (inf s) (inf t) e = never (Bool·beq s (not t)) e
+  where
+    never : (b : Bool) → isNumber (settled (cond b (inf s) nan)) ≡ true → false ≡ true
+    never true e = e
+    never false e = e
+difference-finite (inf s) (fin t m d) e = e
+difference-finite (fin s m d) b e = refl
+
+-- and so is a number that is left by a product
+pub less-finite : (acc a b v : Float) → less acc a b ≡ number v → isFinite acc ≡ true
+unfolding isNumber less next
+less-finite acc a b v e = by (product a b) (ap isNumber e)
+  where
+    by : (p : Answer) → isNumber (next p (λ q. difference acc q)) ≡ true → isFinite acc ≡ true
+    by (number q) e = difference-finite acc q e
+    by overflow e = absurd (false≢true e)
+    by zeroDivisor e = absurd (false≢true e)

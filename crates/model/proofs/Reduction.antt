@@ -1,6 +1,7 @@
 -- The reduction: the reduced formulas worked out end as dense Crout does, with C compressed and labels as slots; and where a pivot is missing
 -- dense Crout never ends solved.
-use Prim.Native.Nat.{ℕ, suc, _*_}
+use Prim.Native.Nat.{ℕ, suc, _+_, _*_}
+use native.Mathlib.Nat.{add-zero}
 use native.Mathlib.Omega.{arith}
 use mathlib.Core.Path.{_≡_, refl, sym, ap, ap₂, subst, _∙_}
 use mathlib.Core.Bool.{Bool, true, false, cond, true≢false}
@@ -19,11 +20,12 @@ use Rattle.model.proofs.Plans.{pivot-held, missing-free}
 use Rattle.model.proofs.Picked.{picked, shrunk, shrunk-y, shrunk-x, shrunk-held, shrunk-unheld, shrunk-packed}
 use Rattle.model.proofs.Values.{Sound, sound-nothing, sound-c, sound-y, sound-x, Reads, reads-good, number-good, place-entered}
 use Rattle.model.proofs.Values.{place-same, forward-same, backward-same, unheld-value}
+use Rattle.model.proofs.Values.{vanishedBy, place-vanished, forward-vanished, backward-vanished, unheld-vanished}
 use Rattle.model.proofs.Beside.{formulaOf, denseOf, beside, Beside, done, on-both, left-out, into-y, into-x}
 
 -- dense Crout's ending, with C compressed and a refusal in C by the slot of its place
 unfoldable pub squeezed : ℕ → Plan → Ended → Ended
-squeezed N L (solved t) = solved (shrunk N L t)
+squeezed N L (solved t g) = solved (shrunk N L t) g
 squeezed N L (refused r C k) = refused r C (slot N L (place N k .0) (place N k .1))
 squeezed N L (refused r Y k) = refused r Y k
 squeezed N L (refused r X k) = refused r X k
@@ -37,10 +39,11 @@ record Targets (f : Formula) (tb : Table) (k : ℕ) : Type 0 where
   table-is : f .table ≡ tb
   target-is : f .target ≡ k
 
-worked-cons : {f : Formula} {tb : Table} {k : ℕ} → Targets f tb k → (A B : List Float) (limit : Float) (t : Tables) (fs : List Formula)
-    → worked A B limit t (f ∷ fs) ≡ onward (value A B limit t f) tb k (λ v. worked A B limit (closed t tb v) fs)
+worked-cons : {f : Formula} {tb : Table} {k : ℕ} → Targets f tb k → (A B : List Float) (limit : Float) (g : ℕ) (t : Tables) (fs : List Formula)
+    → worked A B limit g t (f ∷ fs) ≡ onward (value A B limit t f) tb k (λ v. worked A B limit (g + vanishedBy t f) (closed t tb v) fs)
 unfolding worked
-worked-cons {f} to A B limit t fs = ap₂ (λ tb k. onward (value A B limit t f) tb k (λ v. worked A B limit (closed t tb v) fs)) (to .table-is) (to .target-is)
+worked-cons {f} to A B limit g t fs =
+    ap₂ (λ tb k. onward (value A B limit t f) tb k (λ v. worked A B limit (g + vanishedBy t f) (closed t tb v) fs)) (to .table-is) (to .target-is)
 
 place-targets : (N : ℕ) (L : Plan) (index : ℕ → ℕ → ℕ) (keep : ℕ → ℕ → Bool) (i j : ℕ) → Targets (formulaOf N L index keep i j) C (index i j)
 unfolding formulaOf lower upper
@@ -58,16 +61,16 @@ backward-targets : (N : ℕ) (L : Plan) (index : ℕ → ℕ → ℕ) (keep : �
 unfolding backward
 backward-targets N L index keep i = record { table-is = refl; target-is = refl }
 
-worked-nil : (A B : List Float) (limit : Float) (t : Tables) → worked A B limit t [] ≡ solved t
+worked-nil : (A B : List Float) (limit : Float) (g : ℕ) (t : Tables) → worked A B limit g t [] ≡ solved t g
 unfolding worked
-worked-nil A B limit t = refl
+worked-nil A B limit g t = refl
 
 -- a row that ends solved goes on after a number
-onward-solved : (P : Type 0) (a : Answer) (tb : Table) (k : ℕ) (rest : Float → Ended) (t : Tables) → onward a tb k rest ≡ solved t
-    → ((v : Float) → a ≡ number v → rest v ≡ solved t → P) → P
-onward-solved P (number v) tb k rest t e go = go v refl e
-onward-solved P overflow tb k rest t e go = let z : _≡_ {A = ℕ} 0 1 = cc in absurd (omega arith)
-onward-solved P zeroDivisor tb k rest t e go = let z : _≡_ {A = ℕ} 0 1 = cc in absurd (omega arith)
+onward-solved : (P : Type 0) (a : Answer) (tb : Table) (k : ℕ) (rest : Float → Ended) (t : Tables) (g : ℕ) → onward a tb k rest ≡ solved t g
+    → ((v : Float) → a ≡ number v → rest v ≡ solved t g → P) → P
+onward-solved P (number v) tb k rest t g e go = go v refl e
+onward-solved P overflow tb k rest t g e go = let z : _≡_ {A = ℕ} 0 1 = cc in absurd (omega arith)
+onward-solved P zeroDivisor tb k rest t g e go = let z : _≡_ {A = ℕ} 0 1 = cc in absurd (omega arith)
 
 onward-same : (N : ℕ) (L : Plan) (a : Answer) (tb : Table) (k k′ : ℕ) (rest rest′ : Float → Ended) → ((r : ℕ) → refused r tb k′ ≡ squeezed N L (refused r tb k))
     → ((v : Float) → a ≡ number v → rest′ v ≡ squeezed N L (rest v)) → onward a tb k′ rest′ ≡ squeezed N L (onward a tb k rest)
@@ -75,10 +78,11 @@ onward-same N L (number v) tb k k′ rest rest′ ends go = go v refl
 onward-same N L overflow tb k k′ rest rest′ ends go = ends 16
 onward-same N L zeroDivisor tb k k′ rest rest′ ends go = ends 17
 
-worked-solved : {f : Formula} {tb : Table} {k : ℕ} → Targets f tb k → (P : Type 0) (A B : List Float) (limit : Float) (t t′ : Tables) (fs : List Formula)
-    → worked A B limit t (f ∷ fs) ≡ solved t′
-    → ((v : Float) → value A B limit t f ≡ number v → worked A B limit (closed t tb v) fs ≡ solved t′ → P) → P
-worked-solved to P A B limit t t′ fs e go = onward-solved P _ _ _ _ t′ (sym (worked-cons to A B limit t fs) ∙ e) go
+worked-solved : {f : Formula} {tb : Table} {k : ℕ} → Targets f tb k
+    → (P : Type 0) (A B : List Float) (limit : Float) (g g′ : ℕ) (t t′ : Tables) (fs : List Formula)
+    → worked A B limit g t (f ∷ fs) ≡ solved t′ g′
+    → ((v : Float) → value A B limit t f ≡ number v → worked A B limit (g + vanishedBy t f) (closed t tb v) fs ≡ solved t′ g′ → P) → P
+worked-solved to P A B limit g g′ t t′ fs e go = onward-solved P _ _ _ _ t′ g′ (sym (worked-cons to A B limit g t fs) ∙ e) go
 
 module _ {N : ℕ} {L : Plan} {A B : List Float} {limit : Float} (given : Given N L A B limit) where
   reads : Reads A B limit
@@ -89,29 +93,30 @@ module _ {N : ℕ} {L : Plan} {A B : List Float} {limit : Float} (given : Given 
   place-sound i j inside turn s v e = sound-c s i j inside turn (place-entered reads s i j inside (sym turn) v e)
 
   -- dense Crout's tables stay sound to the end
-  pub sound-end : {n y x : ℕ} {ds rs : List Formula} {t t′ : Tables}
-      → Beside N L n y x ds rs → Sound N L n t → worked A B limit t ds ≡ solved t′ → Sound N L (N * N) t′
-  sound-end {t = t} {t′} done s e = let same : t ≡ t′ = cc (worked-nil A B limit t) in subst (Sound N L (N * N)) same s
-  sound-end {t = t} {t′} (on-both i j inside turn h rest) s e =
-      worked-solved (place-targets N L (label N) _ i j) _ A B limit t t′ _ e (λ v q r. sound-end rest (place-sound i j inside turn s v q) r)
-  sound-end {t = t} {t′} (left-out i j inside turn h rest) s e =
-      worked-solved (place-targets N L (label N) _ i j) _ A B limit t t′ _ e (λ v q r. sound-end rest (place-sound i j inside turn s v q) r)
-  sound-end {t = t} {t′} (into-y h p rest) s e =
-      worked-solved (forward-targets N L (label N) _ _) _ A B limit t t′ _ e (λ v q r. sound-end rest (sound-y s (number-good reads s _ q)) r)
-  sound-end {t = t} {t′} (into-x i l p rest) s e =
-      worked-solved (backward-targets N L (label N) _ i) _ A B limit t t′ _ e (λ v q r. sound-end rest (sound-x s (number-good reads s _ q)) r)
+  pub sound-end : {n y x g′ : ℕ} {ds rs : List Formula} {t t′ : Tables} (g : ℕ)
+      → Beside N L n y x ds rs → Sound N L n t → worked A B limit g t ds ≡ solved t′ g′ → Sound N L (N * N) t′
+  sound-end {t = t} {t′} g done s e = let same : t ≡ t′ = cc (worked-nil A B limit g t) in subst (Sound N L (N * N)) same s
+  sound-end {g′ = g′} {t = t} {t′} g (on-both i j inside turn h rest) s e =
+      worked-solved (place-targets N L (label N) _ i j) _ A B limit g g′ t t′ _ e (λ v q r. sound-end _ rest (place-sound i j inside turn s v q) r)
+  sound-end {g′ = g′} {t = t} {t′} g (left-out i j inside turn h rest) s e =
+      worked-solved (place-targets N L (label N) _ i j) _ A B limit g g′ t t′ _ e (λ v q r. sound-end _ rest (place-sound i j inside turn s v q) r)
+  sound-end {g′ = g′} {t = t} {t′} g (into-y h p rest) s e =
+      worked-solved (forward-targets N L (label N) _ _) _ A B limit g g′ t t′ _ e (λ v q r. sound-end _ rest (sound-y s (number-good reads s _ q)) r)
+  sound-end {g′ = g′} {t = t} {t′} g (into-x i l p rest) s e =
+      worked-solved (backward-targets N L (label N) _ i) _ A B limit g g′ t t′ _ e (λ v q r. sound-end _ rest (sound-x s (number-good reads s _ q)) r)
 
   -- both sides have the same first answer and go on alike
-  both : {f g : Formula} {tb : Table} {k k′ : ℕ} → Targets f tb k → Targets g tb k′ → (t u : Tables) (ds rs : List Formula)
-      → value A B limit u g ≡ value A B limit t f
-      → ((r : ℕ) → refused r tb k′ ≡ squeezed N L (refused r tb k))
-      → ((v : Float) → value A B limit t f ≡ number v → worked A B limit (closed u tb v) rs ≡ squeezed N L (worked A B limit (closed t tb v) ds))
-      → worked A B limit u (g ∷ rs) ≡ squeezed N L (worked A B limit t (f ∷ ds))
-  both {tb = tb} {k} {k′} to to′ t u ds rs e ends go =
-      worked-cons to′ A B limit u rs
-      ∙ ap (λ a. onward a tb k′ (λ v. worked A B limit (closed u tb v) rs)) e
+  both : {d r : Formula} {tb : Table} {k k′ : ℕ} → Targets d tb k → Targets r tb k′ → (g : ℕ) (t u : Tables) (ds rs : List Formula)
+      → value A B limit u r ≡ value A B limit t d → vanishedBy u r ≡ vanishedBy t d
+      → ((n : ℕ) → refused n tb k′ ≡ squeezed N L (refused n tb k))
+      → ((v : Float) → value A B limit t d ≡ number v
+      → worked A B limit (g + vanishedBy t d) (closed u tb v) rs ≡ squeezed N L (worked A B limit (g + vanishedBy t d) (closed t tb v) ds))
+      → worked A B limit g u (r ∷ rs) ≡ squeezed N L (worked A B limit g t (d ∷ ds))
+  both {tb = tb} {k} {k′} to to′ g t u ds rs e w ends go =
+      worked-cons to′ A B limit g u rs
+      ∙ ap₂ (λ a n. onward a tb k′ (λ v. worked A B limit (g + n) (closed u tb v) rs)) e w
       ∙ onward-same N L _ tb k k′ _ _ ends go
-      ∙ ap (squeezed N L) (sym (worked-cons to A B limit t ds))
+      ∙ ap (squeezed N L) (sym (worked-cons to A B limit g t ds))
 
   module _ (pivots : missing N L ≡ 0) where
     off-diagonal : (i j : ℕ) → Inside N i j → held N L i j ≡ false → i ≡ j → ⊥
@@ -126,50 +131,56 @@ module _ {N : ℕ} {L : Plan} {A B : List Float} {limit : Float} (given : Given 
     unheld-nought s i j inside turn h = unheld-value reads s i j inside (sym turn) h ∙ rw (ne-eqb i j (off-diagonal i j inside h))
 
     -- from any point on, the reduced formulas end as dense Crout does
-    pub reduction : {n y x : ℕ} {ds rs : List Formula} {t : Tables} → Beside N L n y x ds rs → Sound N L n t
-        → worked A B limit (shrunk N L t) rs ≡ squeezed N L (worked A B limit t ds)
+    pub reduction : {n y x : ℕ} {ds rs : List Formula} {t : Tables} (g : ℕ) → Beside N L n y x ds rs → Sound N L n t
+        → worked A B limit g (shrunk N L t) rs ≡ squeezed N L (worked A B limit g t ds)
     unfolding squeezed
-    reduction {t = t} done s = rw (worked-nil A B limit t, worked-nil A B limit (shrunk N L t))
-    reduction {t = t} (on-both i j inside turn h rest) s =
-        both (place-targets N L (label N) _ i j) (place-targets N L (slot N L) _ i j) t (shrunk N L t) _ _
-        (place-same reads s (pivot-held N L pivots) i j inside)
+    reduction {t = t} g done s = rw (worked-nil A B limit g t, worked-nil A B limit g (shrunk N L t))
+    reduction {t = t} g (on-both i j inside turn h rest) s =
+        both (place-targets N L (label N) _ i j) (place-targets N L (slot N L) _ i j) g t (shrunk N L t) _ _
+        (place-same reads s (pivot-held N L pivots) i j inside) (place-vanished s i j inside)
         (λ r. rw (place-of-label N i j inside))
-        (λ v q. rw (← shrunk-held N L i j inside t v (ap suc (s .count) ∙ turn) h) (reduction rest (place-sound i j inside turn s v q)))
-    reduction {t = t} (left-out i j inside turn h rest) s =
+        (λ v q. rw (← shrunk-held N L i j inside t v (ap suc (s .count) ∙ turn) h) (reduction _ rest (place-sound i j inside turn s v q)))
+    reduction {t = t} g (left-out i j inside turn h rest) s =
         let e = unheld-nought s i j inside turn h in
-        rw (worked-cons (place-targets N L (label N) _ i j) A B limit t _, e, ← shrunk-unheld N L i j inside t plusZero (ap suc (s .count) ∙ turn) h)
-        (reduction rest (place-sound i j inside turn s plusZero e))
-    reduction {t = t} (into-y h p rest) s =
-        both (forward-targets N L (label N) _ _) (forward-targets N L (slot N L) _ _) t (shrunk N L t) _ _
-        (forward-same reads s (pivot-held N L pivots) _ (omega arith) h)
+        rw (
+          worked-cons (place-targets N L (label N) _ i j) A B limit g t _,
+          e,
+          unheld-vanished s i j inside h,
+          add-zero,
+          ← shrunk-unheld N L i j inside t plusZero (ap suc (s .count) ∙ turn) h,
+        )
+        (reduction _ rest (place-sound i j inside turn s plusZero e))
+    reduction {t = t} g (into-y h p rest) s =
+        both (forward-targets N L (label N) _ _) (forward-targets N L (slot N L) _ _) g t (shrunk N L t) _ _
+        (forward-same reads s (pivot-held N L pivots) _ (omega arith) h) (forward-vanished s _ (omega arith) h)
         (λ r. refl)
-        (λ v q. rw (← shrunk-y N L t v) (reduction rest (sound-y s (number-good reads s _ q))))
-    reduction {t = t} (into-x i l p rest) s =
-        both (backward-targets N L (label N) _ i) (backward-targets N L (slot N L) _ i) t (shrunk N L t) _ _
-        (backward-same reads s (pivot-held N L pivots) i l (omega arith))
+        (λ v q. rw (← shrunk-y N L t v) (reduction _ rest (sound-y s (number-good reads s _ q))))
+    reduction {t = t} g (into-x i l p rest) s =
+        both (backward-targets N L (label N) _ i) (backward-targets N L (slot N L) _ i) g t (shrunk N L t) _ _
+        (backward-same reads s (pivot-held N L pivots) i l (omega arith)) (backward-vanished s i l (omega arith))
         (λ r. refl)
-        (λ v q. rw (← shrunk-x N L t v) (reduction rest (sound-x s (number-good reads s _ q))))
+        (λ v q. rw (← shrunk-x N L t v) (reduction _ rest (sound-x s (number-good reads s _ q))))
 
 -- The headlines: the reduced formulas end as dense Crout does;
 pub reduced-is-dense : {N : ℕ} {L : Plan} {A B : List Float} {limit : Float} → Accepted N L A B limit
-    → worked A B limit (nothing N) (reducedFormulas N L) ≡ squeezed N L (dense N L A B limit)
+    → worked A B limit 0 (nothing N) (reducedFormulas N L) ≡ squeezed N L (dense N L A B limit)
 unfolding dense shrunk picked
-reduced-is-dense {N} {L} accepted = reduction (accepted .given) (accepted .pivots) (beside N L) (sound-nothing N L)
+reduced-is-dense {N} {L} accepted = reduction (accepted .given) (accepted .pivots) 0 (beside N L) (sound-nothing N L)
 
 module _ {N : ℕ} {L : Plan} {A B : List Float} {limit : Float} (given : Given N L A B limit) where
-  solved-sound : (t : Tables) → dense N L A B limit ≡ solved t → Sound N L (N * N) t
+  solved-sound : (t : Tables) (g : ℕ) → dense N L A B limit ≡ solved t g → Sound N L (N * N) t
   unfolding dense
-  solved-sound t e = sound-end given (beside N L) (sound-nothing N L) e
+  solved-sound t g e = sound-end given 0 (beside N L) (sound-nothing N L) e
 
   -- where it ends solved, the tables squeezed are those compressed;
-  pub solved-packed : (t : Tables) → dense N L A B limit ≡ solved t → shrunk N L t ≡ packed N L t
-  solved-packed t e = shrunk-packed N L t (solved-sound t e .count)
+  pub solved-packed : (t : Tables) (g : ℕ) → dense N L A B limit ≡ solved t g → shrunk N L t ≡ packed N L t
+  solved-packed t g e = shrunk-packed N L t (solved-sound t g e .count)
 
 -- and where a pivot is missing, it never ends solved.
 pub never-solved : (N : ℕ) (L : Plan) (A B : List Float) (limit : Float) → NeverSolved N L A B limit
 unfolding isZero
-never-solved N L A B limit given gap t e =
-    let s = solved-sound given t e in
+never-solved N L A B limit given gap t g e =
+    let s = solved-sound given t g e in
     let m = missing-free N L gap in
     let inside : Inside N (missing N L) (missing N L) = omega arith in
     true≢false (rw (s .unheld _ _ inside (m .free)) at (s .pivot _ (m .low) (m .high) (label-range N _ _ inside .1)))

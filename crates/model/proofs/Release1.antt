@@ -1,5 +1,5 @@
--- The runner of `specs/` is release 1's: for every input, and with limit +0, it checks, runs, answers and leaves as `specs/Release1`, here R, says.
--- And what a program that release 1 accepts may count on.
+-- The runner of `specs/` is release 1's: for every input, and with limit +0, it checks, runs, answers and leaves as `specs/Release1`, here R, says,
+-- the count of products that vanished left out. And what a program that release 1 accepts may count on.
 use Prim.Native.Nat.{ℕ, zero, suc}
 use mathlib.Core.Path.{_≡_, refl, sym, ap, ap₂, _∙_}
 use mathlib.Core.Bool.{Bool, true, false, cond, true≢false}
@@ -19,7 +19,7 @@ use Rattle.model.specs.Compile.{judged, good}
 use Rattle.model.specs.Check.{word, nextOf, Chain, whole, broken, before, chainAfter, chain, Open, idle, busy, Progress, Verdict, fine, refusal}
 use Rattle.model.specs.Check.{Kind, opens, subtracts, divides, closes, closesPivot, none, kindOf}
 use Rattle.model.specs.Check.{formed, inOrder, inTurn, counted, onward, isIdle, complete, checkLinks, check}
-use Rattle.model.specs.Run.{State, Stepped, going, stop, closing, settledStep, step, Outcome, solution, stopped, refusedBy, follow, followed}
+use Rattle.model.specs.Run.{State, Stepped, going, stop, closing, settledStep, step, Outcome, solution, stopped, refusedBy, fresh, follow, followed}
 use Rattle.model.specs.Run.{notFinite, checkValues, ran, Reply, solves, stops, refuses, reply, leaves}
 use Rattle.model.proofs.Lists.{Each}
 use Rattle.model.proofs.Arith.{small-zero}
@@ -58,38 +58,40 @@ openNow (R.busy t) = busy (tableNow t)
 abbrev progressNow : R.Progress → Progress
 progressNow g = record { target = openNow (g .target); c = g .c; y = g .y; x = g .x }
 
-abbrev pub tablesNow : R.Tables → Tables
-tablesNow t = record { order = t .order; c = t .c; y = t .y; x = t .x }
+abbrev answerNow : R.Answer Float → Answer
+answerNow (R.gives v) = number v
+answerNow R.overflow = overflow
+answerNow R.zeroDivisor = zeroDivisor
 
-abbrev stateNow : R.State → State
-stateNow z = record {
-  tables = tablesNow (z .tables);
-  table = tableNow (z .table);
+-- ---- today's endings as release 1's: the products that vanished are left out
+
+abbrev pub tableThen : Table → R.Table
+tableThen C = R.C
+tableThen Y = R.Y
+tableThen X = R.X
+
+abbrev pub tablesThen : Tables → R.Tables
+tablesThen t = record { order = t .order; c = t .c; y = t .y; x = t .x }
+
+abbrev stateThen : State → R.State
+stateThen z = record {
+  tables = tablesThen (z .tables);
+  table = tableThen (z .table);
   target = z .target;
   running = z .running;
   products = z .products;
   quotients = z .quotients;
 }
 
-abbrev answerNow : R.Answer Float → Answer
-answerNow (R.gives v) = number v
-answerNow R.overflow = overflow
-answerNow R.zeroDivisor = zeroDivisor
+abbrev pub outcomeThen : Outcome → R.Outcome
+outcomeThen (solution t products quotients vanished) = R.solution (tablesThen t) products quotients
+outcomeThen (stopped r index t k) = R.stopped r index (tableThen t) k
+outcomeThen (refusedBy r d) = R.refused r d
 
-abbrev steppedNow : R.Answer R.State → Stepped
-steppedNow (R.gives z) = going (stateNow z)
-steppedNow R.overflow = stop 16
-steppedNow R.zeroDivisor = stop 17
-
-abbrev pub outcomeNow : R.Outcome → Outcome
-outcomeNow (R.solution t products quotients) = solution (tablesNow t) products quotients
-outcomeNow (R.stopped r index t k) = stopped r index (tableNow t) k
-outcomeNow (R.refused r d) = refusedBy r d
-
-abbrev pub replyNow : R.Reply → Reply
-replyNow (R.solves products quotients) = solves products quotients
-replyNow (R.stops r index t k) = stops r index t k
-replyNow (R.refuses r d) = refuses r d
+abbrev pub replyThen : Reply → R.Reply
+replyThen (solves products quotients vanished) = R.solves products quotients
+replyThen (stops r index t k) = R.stops r index t k
+replyThen (refuses r d) = R.refuses r d
 
 -- a function goes into both branches
 cond-map : {S T : Type 0} (f : S → T) (b : Bool) (x y : S) → f (cond b x y) ≡ cond b (f x) (f y)
@@ -265,50 +267,60 @@ check-frozen W =
 
 -- ---- the run
 
-entry-frozen : (t : R.Tables) (u : R.Table) (k : ℕ) → R.entry t u k ≡ entry (tablesNow t) (tableNow u) k
+entry-frozen : (t : Tables) (u : R.Table) (k : ℕ) → R.entry (tablesThen t) u k ≡ entry t (tableNow u) k
 unfolding R.entry entry
 entry-frozen t R.C k = refl
 entry-frozen t R.Y k = refl
 entry-frozen t R.X k = refl
 
-closed-frozen : (t : R.Tables) (u : R.Table) (v : Float) → tablesNow (R.closed t u v) ≡ closed (tablesNow t) (tableNow u) v
+closed-frozen : (t : Tables) (u : Table) (v : Float) → tablesThen (closed t u v) ≡ R.closed (tablesThen t) (tableThen u) v
 unfolding R.closed closed
-closed-frozen t R.C v = refl
-closed-frozen t R.Y v = refl
-closed-frozen t R.X v = refl
+closed-frozen t C v = refl
+closed-frozen t Y v = refl
+closed-frozen t X v = refl
 
-taken-frozen : (z : R.State) → stateNow (R.taken z) ≡ closing (stateNow z)
+taken-frozen : (z : State) → R.taken (stateThen z) ≡ stateThen (closing z)
 unfolding R.taken
 taken-frozen z = cc (closed-frozen (z .tables) (z .table) (z .running))
 
-stepped-frozen : (a : R.Answer Float) (f : Float → R.State) → steppedNow (R.next a (λ v. R.gives (f v))) ≡ settledStep (answerNow a) (λ v. stateNow (f v))
+-- a step of release 1's and one of today's that lead to the same
+data Alike : R.Answer R.State → Stepped → Type 0 where
+  on : (z : State) → Alike (R.gives (stateThen z)) (going z)
+  sixteen : Alike R.overflow (stop 16)
+  seventeen : Alike R.zeroDivisor (stop 17)
+
+settled-alike : (a : R.Answer Float) (f : Float → State) → Alike (R.next a (λ v. R.gives (stateThen (f v)))) (settledStep (answerNow a) f)
 unfolding R.next
-stepped-frozen (R.gives v) f = refl
-stepped-frozen R.overflow f = refl
-stepped-frozen R.zeroDivisor f = refl
+settled-alike (R.gives v) f = on (f v)
+settled-alike R.overflow f = sixteen
+settled-alike R.zeroDivisor f = seventeen
 
 module _ (A B : List Float) where
-  step-frozen : (z : R.State) (k : R.Kind) (p q : ℕ) → steppedNow (R.step A B z k p q) ≡ step A B plusZero (stateNow z) (kindNow k) p q
+  step-frozen : (z : State) (k : R.Kind) (p q : ℕ) → Alike (R.step A B (stateThen z) k p q) (step A B plusZero z (kindNow k) p q)
   unfolding R.step R.opened R.worked step starting
-  step-frozen z (R.opens R.C) p q = rw clean-frozen
-  step-frozen z (R.opens R.Y) p q = rw clean-frozen
-  step-frozen z (R.opens R.X) p q = rw entry-frozen
-  step-frozen z (R.subtracts t) p q = stepped-frozen _ _ ∙ simp (less-frozen, entry-frozen)
-  step-frozen z R.divides p q = stepped-frozen _ _ ∙ rw (over-frozen, entry-frozen)
-  step-frozen z R.closes p q = rw taken-frozen
-  step-frozen z R.closesPivot p q = rw (small-zero, zero-frozen, cond-map steppedNow, taken-frozen)
-  step-frozen z R.none p q = refl
-
-  follow-frozen : (z : R.State) (c : R.Chain) → outcomeNow (R.follow A B z c) ≡ followed (follow A B plusZero (stateNow z) (chainNow c .links))
-  unfolding R.follow follow followed
-  follow-frozen z (R.link index k p q c) = by (R.step A B z (R.kindOf k) p q) refl (λ z′. follow-frozen z′ c)
+  step-frozen z (R.opens R.C) p q = rw clean-frozen (on _)
+  step-frozen z (R.opens R.Y) p q = rw clean-frozen (on _)
+  step-frozen z (R.opens R.X) p q = rw entry-frozen (on _)
+  step-frozen z (R.subtracts t) p q = rw (← less-frozen) (simp entry-frozen (settled-alike _ _))
+  step-frozen z R.divides p q = rw (← over-frozen, entry-frozen) (settled-alike _ _)
+  step-frozen z R.closes p q = rw taken-frozen (on _)
+  step-frozen z R.closesPivot p q = rw (small-zero, ← zero-frozen, taken-frozen) (test (R.isZero (z .running)))
     where
-      by : (a : R.Answer R.State) → R.step A B z (R.kindOf k) p q ≡ a
-          → ((z′ : R.State) → outcomeNow (R.follow A B z′ c) ≡ followed (follow A B plusZero (stateNow z′) (chainNow c .links)))
-          → outcomeNow (R.follow A B z (R.link index k p q c)) ≡ followed (follow A B plusZero (stateNow z) (chainNow (R.link index k p q c) .links))
-      by (R.gives z′) e rest = rw (R.follow, followed, follow, ← kind-frozen k, ← step-frozen, e) (rest z′)
-      by R.overflow e rest = rw (R.follow, followed, follow, ← kind-frozen k, ← step-frozen, e)
-      by R.zeroDivisor e rest = rw (R.follow, followed, follow, ← kind-frozen k, ← step-frozen, e)
+      test : (b : Bool) → Alike (cond b R.zeroDivisor (R.gives (stateThen (closing z)))) (cond b (stop 17) (going (closing z)))
+      test true = seventeen
+      test false = on (closing z)
+  step-frozen z R.none p q = on z
+
+  follow-frozen : (z : State) (c : R.Chain) → outcomeThen (followed (follow A B plusZero z (chainNow c .links))) ≡ R.follow A B (stateThen z) c
+  unfolding R.follow follow followed
+  follow-frozen z (R.link index k p q c) = by refl refl (rw kind-frozen at (step-frozen z (R.kindOf k) p q)) (λ z′. follow-frozen z′ c)
+    where
+      by : {a : R.Answer R.State} {s : Stepped} → R.step A B (stateThen z) (R.kindOf k) p q ≡ a → step A B plusZero z (kindOf k) p q ≡ s → Alike a s
+          → ((z′ : State) → outcomeThen (followed (follow A B plusZero z′ (chainNow c .links))) ≡ R.follow A B (stateThen z′) c)
+          → outcomeThen (followed (follow A B plusZero z (chainNow (R.link index k p q c) .links))) ≡ R.follow A B (stateThen z) (R.link index k p q c)
+      by e f (on z′) rest = rw (R.follow, followed, follow, e, f) (rest z′)
+      by e f sixteen rest = rw (R.follow, followed, follow, e, f)
+      by e f seventeen rest = rw (R.follow, followed, follow, e, f)
   follow-frozen z R.whole = refl
   follow-frozen z (R.broken k) = refl
 
@@ -327,44 +339,52 @@ values-frozen A B =
     rw (not-finite-frozen 1 A, not-finite-frozen 1 B)
     (required-frozen verdictNow 15 (notFinite 1 A) _ refl (required-frozen verdictNow 15 (notFinite 1 B) R.fine refl refl))
 
-after-frozen : (v : R.Verdict) (o : R.Outcome) {now : Outcome} → outcomeNow o ≡ now
-    → outcomeNow (R.after v o) ≡ elim (verdictNow v) [ refusal r d ↦ refusedBy r d | fine ↦ now ]
-after-frozen R.fine o e = e
-after-frozen (R.refusal r d) o e = refl
+-- 14, and then these, lead where they led
+gated-frozen : (A B : List Float) (right : Bool) (now : Outcome) {past : R.Outcome} → outcomeThen now ≡ past
+    → outcomeThen (gated (refusedBy 14 0) refusedBy right (checkValues A B plusZero) now) ≡ R.after (R.required right 14 0 (fifteen A B)) past
+unfolding gated R.required
+gated-frozen A B false now e = refl
+gated-frozen A B true now {past} e = rw (← values-frozen A B) (by (fifteen A B))
+  where
+    by : (v : R.Verdict) → outcomeThen (elim (verdictNow v) [ refusal r d ↦ refusedBy r d | fine ↦ now ]) ≡ R.after v past
+    by R.fine = e
+    by (R.refusal r d) = refl
 
 -- with limit +0 the run is release 1's
-pub ran-frozen : (W : List ℕ) (A B : List Float) (lc ly lx : ℕ) → outcomeNow (R.ran W A B lc ly lx) ≡ ran W A B plusZero lc ly lx
-unfolding R.ran R.checkValues ranBy gated lengthsRight
-ran-frozen W A B lc ly lx = by (R.check W) ∙ ap (ranBy W A B plusZero lc ly lx) (check-frozen W) ∙ sym (ran-is W A B plusZero lc ly lx)
+pub ran-frozen : (W : List ℕ) (A B : List Float) (lc ly lx : ℕ) → outcomeThen (ran W A B plusZero lc ly lx) ≡ R.ran W A B lc ly lx
+unfolding R.ran R.checkValues ranBy lengthsRight
+ran-frozen W A B lc ly lx = rw (ran-is, ← check-frozen W) (by (R.check W))
   where
-    done : R.Outcome
-    done = R.follow A B (R.fresh (R.word W 0)) (R.chain W)
+    now : Outcome
+    now = followed (follow A B plusZero (fresh (word W 0)) (chain W .links))
 
-    values : R.Verdict → Outcome
-    values v = outcomeNow (R.after v done)
+    past : R.Outcome
+    past = R.follow A B (R.fresh (word W 0)) (R.chain W)
+
+    ends : outcomeThen now ≡ past
+    ends = rw (← chain-frozen W) (follow-frozen A B (fresh (word W 0)) (R.chain W))
 
     by : (v : R.Verdict)
-        → outcomeNow (R.after v (R.after (R.checkValues (R.word W 0) (R.word W 1) (R.word W 2) A B lc ly lx) done))
-        ≡ ranBy W A B plusZero lc ly lx (verdictNow v)
-    by R.fine =
-        required-frozen values 14 0 _ refl
-        (rw (← values-frozen A B) (after-frozen (fifteen A B) done (rw (← chain-frozen W) (follow-frozen A B _ (R.chain W)))))
+        → outcomeThen (ranBy W A B plusZero lc ly lx (verdictNow v)) ≡ R.after v (R.after (R.checkValues (word W 0) (word W 1) (word W 2) A B lc ly lx) past)
+    by R.fine = gated-frozen A B (lengthsRight (word W 0) (word W 1) (word W 2) (length A) (length B) lc ly lx) now ends
     by (R.refusal r d) = refl
 
 -- and so are what the caller is told and what is left
-pub reply-frozen : (o : R.Outcome) → replyNow (R.reply o) ≡ reply (outcomeNow o)
+pub reply-frozen : (o : Outcome) → replyThen (reply o) ≡ R.reply (outcomeThen o)
 unfolding R.reply reply
-reply-frozen (R.solution t products quotients) = refl
-reply-frozen (R.stopped r index t k) = rw number-frozen
-reply-frozen (R.refused r d) = refl
+reply-frozen (solution t products quotients vanished) = refl
+reply-frozen (stopped r index C k) = refl
+reply-frozen (stopped r index Y k) = refl
+reply-frozen (stopped r index X k) = refl
+reply-frozen (refusedBy r d) = refl
 
-pub leaves-frozen : (o : R.Outcome) (t : R.Table) (vs : List Float) → R.leaves o t vs ≡ leaves (outcomeNow o) (tableNow t) vs
+pub leaves-frozen : (o : Outcome) (t : R.Table) (vs : List Float) → leaves o (tableNow t) vs ≡ R.leaves (outcomeThen o) t vs
 unfolding R.leaves leaves
-leaves-frozen (R.solution u p q) R.C vs = refl
-leaves-frozen (R.solution u p q) R.Y vs = refl
-leaves-frozen (R.solution u p q) R.X vs = refl
-leaves-frozen (R.stopped r k u n) t vs = refl
-leaves-frozen (R.refused r d) t vs = refl
+leaves-frozen (solution u p q g) R.C vs = refl
+leaves-frozen (solution u p q g) R.Y vs = refl
+leaves-frozen (solution u p q g) R.X vs = refl
+leaves-frozen (stopped r index u k) t vs = refl
+leaves-frozen (refusedBy r d) t vs = refl
 
 -- ---- what a program that release 1 accepts may count on
 

@@ -28,6 +28,7 @@ module _ (A B : List Float) (limit : Float) (W : List ℕ) where
     pub checks : checkLinks (word W 0) (word W 1) (word W 2) (progressIn target z) (chainFrom W k .links) (chainFrom W k .end) ≡ fine
     pub leads : follow A B limit (fresh (word W 0)) (chain W .links) ≡ follow A B limit z (chainFrom W k .links)
     pub made : z .products + z .quotients ≤ k
+    pub gone : z .vanished ≤ z .products
 
   -- z is the run's state before record k, of kind t
   pub record RunBefore (z : State) (k : ℕ) (t : Kind) (p q : ℕ) : Type 0 where
@@ -38,6 +39,7 @@ module _ (A B : List Float) (limit : Float) (W : List ℕ) where
     pub checks : checkLinks (word W 0) (word W 1) (word W 2) (onward t (progressIn target z)) (chainFrom W k .links) (chainFrom W k .end) ≡ fine
     pub leads : follow A B limit (fresh (word W 0)) (chain W .links) ≡ continued A B limit W z k (step A B limit z t p q)
     pub made : z .products + z .quotients < k
+    pub gone : z .vanished ≤ z .products
 
   follow-link : (z : State) (k : ℕ) (r : Record)
       → follow A B limit z (record { index = k; at = r } ∷ chainFrom W k .links) ≡ continued A B limit W z k (step A B limit z (kindOf (r .kind)) (r .p) (r .q))
@@ -58,6 +60,7 @@ module _ {A B : List Float} {limit : Float} {W : List ℕ} where
     checks = rw chain-from at (p .links);
     leads = ap (λ c. follow A B limit (fresh (word W 0)) (c .links)) (chain-from W);
     made = omega arith;
+    gone = omega arith;
   }
 
   module _ {z : State} {k : ℕ} (after : RunAfter A B limit W z k) where
@@ -97,6 +100,7 @@ module _ {A B : List Float} {limit : Float} {W : List ℕ} where
           checks = passed .later;
           leads = after .leads ∙ ap (λ c. follow A B limit z (c .links)) is ∙ follow-link A B limit W z (nextOf W k) (recordAt W (nextOf W k));
           made = omega (arith, after .made);
+          gone = after .gone;
         }
 
   module _ {z : State} {k : ℕ} {t : Kind} {p q : ℕ} (before : RunBefore A B limit W z k t p q) where
@@ -111,6 +115,7 @@ module _ {A B : List Float} {limit : Float} {W : List ℕ} where
           checks = rw (after .progress) (before .checks);
           leads = before .leads ∙ ap (continued A B limit W z k) (sym e);
           made = omega (arith, after .made, before .made);
+          gone = after .gone (before .gone);
         }
 
     pub run-stops : (r : ℕ) → stop r ≡ step A B limit z t p q → follow A B limit (fresh (word W 0)) (chain W .links) ≡ halted r k (z .table) (z .target)
@@ -118,7 +123,7 @@ module _ {A B : List Float} {limit : Float} {W : List ℕ} where
 
 -- the records end a run by 16 and 17 alone
 abbrev pub NotRefused : Outcome → Type 0
-NotRefused (solution t p q) = Unit {0}
+NotRefused (solution t p q g) = Unit {0}
 NotRefused (stopped r k t n) = Unit {0}
 NotRefused (refusedBy r d) = ⊥
 

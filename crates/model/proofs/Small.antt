@@ -15,7 +15,7 @@ use Rattle.model.specs.Check as Check
 use Rattle.model.specs.Check.{Link, Kind, opens, subtracts, divides, closes, closesPivot, none, Progress, Verdict, fine}
 use Rattle.model.specs.Check.{End, whole, broken, Chain, chainAfter, chain, nextOf, recordAt, before}
 use Rattle.model.specs.Check.{kindOf, formed, inOrder, inTurn, onward, complete, checkLinks, check, begun, word}
-use Rattle.model.specs.Arith.{Answer, number, overflow, zeroDivisor, quotient, isFinite, isSmall}
+use Rattle.model.specs.Arith.{Answer, number, overflow, zeroDivisor, quotient, isFinite, vanishes, isSmall}
 use Rattle.model.specs.Formula.{C, Y, X, entry, less}
 use Rattle.model.specs.Run.{State, refusedBy, fresh, Stepped, going, stop, closing, subtracted, dividedBy, settledStep, step}
 use Rattle.model.specs.Run.{Followed, through, halted, follow, followed, notFinite, checkValues, ran}
@@ -213,7 +213,7 @@ compiles-small N L work words =
 -- ---- the run
 
 abbrev pub SmallReply : ℕ → Reply → Type 0
-SmallReply b (solves products quotients) = Unit {0}
+SmallReply b (solves products quotients vanished) = Unit {0}
 SmallReply b (stops r index t k) = Small b r index
 SmallReply b (refuses r d) = Small b r d
 
@@ -231,7 +231,8 @@ unfolding step
 step-small A B limit z (opens C) p q = tt
 step-small A B limit z (opens Y) p q = tt
 step-small A B limit z (opens X) p q = tt
-step-small A B limit z (subtracts t) p q = settled-small (less (z .running) (entry (z .tables) C p) (entry (z .tables) t q)) (subtracted z)
+step-small A B limit z (subtracts t) p q =
+    settled-small (less (z .running) (entry (z .tables) C p) (entry (z .tables) t q)) (subtracted z (vanishes (entry (z .tables) C p) (entry (z .tables) t q)))
 step-small A B limit z divides p q = settled-small (quotient (z .running) (entry (z .tables) C p)) (dividedBy z)
 step-small A B limit z closes p q = tt
 step-small A B limit z closesPivot p q = test (isSmall limit (z .running))
@@ -289,7 +290,7 @@ unfolding ranBy reply chain
 ran-small W A B limit c y x = rw (ran-is W A B limit c y x) (go (check W) (check-small W))
   where
     wider : (r : Reply) → SmallReply (length W / 4) r → SmallReply (1 + length W + length A + length B) r
-    wider (solves p q) s = tt
+    wider (solves p q g) s = tt
     wider (stops r k t n) s = omega arith
     wider (refuses r d) s = omega arith
 
@@ -315,7 +316,7 @@ unfolding replied
 replied-small N L A B limit work words c y x = go (compiles N L work words) refl (compiles-small N L work words)
   where
     wider : (r : Reply) (k : ℕ) → k ≤ 400000000 → SmallReply (1 + k + length A + length B) r → SmallReply (400000001 + length L + length A + length B) r
-    wider (solves p q) k h s = tt
+    wider (solves p q g) k h s = tt
     wider (stops r i t n) k h s = omega arith
     wider (refuses r d) k h s = omega arith
 

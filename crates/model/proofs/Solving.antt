@@ -25,16 +25,16 @@ use Rattle.model.proofs.Agreement.{runs, agreement}
 -- a run leaves in a lent table what its ending, as it is seen, says
 pub leaves-left : (o : Outcome) (t : Table) (vs : List Float) → leaves o t vs ≡ leftIn (seen o) t vs
 unfolding leaves leftIn seen
-leaves-left (solution ts p q) C vs = refl
-leaves-left (solution ts p q) Y vs = refl
-leaves-left (solution ts p q) X vs = refl
+leaves-left (solution ts p q g) C vs = refl
+leaves-left (solution ts p q g) Y vs = refl
+leaves-left (solution ts p q g) X vs = refl
 leaves-left (stopped r k u n) t vs = refl
 leaves-left (refusedBy r d) t vs = refl
 
 -- and tells what that says
 tells-told : (o : Outcome) → tellsOf (reply o) ≡ told (seen o)
 unfolding reply told seen
-tells-told (solution ts p q) = refl
+tells-told (solution ts p q g) = refl
 tells-told (stopped r k u n) = refl
 tells-told (refusedBy r d) = refl
 

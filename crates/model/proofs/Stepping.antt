@@ -8,7 +8,7 @@ use lib.Dec.{leb, ltb, eqb}
 use lib.ListN.{length, length-append}
 use lib.Ieee.{Float}
 use borrow.Author.Tests.{ltb-true, leb-true, eqb-true}
-use Rattle.model.specs.Arith.{Answer, number, overflow, zeroDivisor, quotient, isSmall}
+use Rattle.model.specs.Arith.{Answer, number, overflow, zeroDivisor, quotient, vanishes, isSmall}
 use Rattle.model.specs.Formula.{Table, C, Y, X, Tables, entry, closed, less}
 use Rattle.model.specs.Check.{Open, idle, busy, Progress, Kind, opens, subtracts, divides, closes, closesPivot, none}
 use Rattle.model.specs.Check.{inOrder, inTurn, counted, onward}
@@ -35,15 +35,21 @@ abbrev pub OpenRoom : ℕ → ℕ → Open → State → Type 0
 OpenRoom N s idle z = Unit {0}
 OpenRoom N s (busy t) z = (z .table ≡ t) × (closedIn t (z .tables) < entriesOf N s t)
 
--- the state after a record of kind k: its progress is the check's, a target that is open has room, and at most one operation more was made
+-- the state after a record of kind k: its progress is the check's, a target that is open has room, at most one operation more was made, and no more products
+-- vanished than were made
 pub record AfterRecord (N s : ℕ) (o : Open) (z : State) (k : Kind) (z′ : State) : Type 0 where
   pub progress : progressIn (onward k (progressIn o z) .target) z′ ≡ onward k (progressIn o z)
   pub room : OpenRoom N s (onward k (progressIn o z) .target) z′
   pub made : z′ .products + z′ .quotients ≤ suc (z .products + z .quotients)
+  pub gone : z .vanished ≤ z .products → z′ .vanished ≤ z′ .products
 
 abbrev pub AfterStep : ℕ → ℕ → Open → State → Kind → Stepped → Type 0
 AfterStep N s o z k (going z′) = AfterRecord N s o z k z′
 AfterStep N s o z k (stop r) = Unit {0}
+
+at-most-one : (b : Bool) → cond b 1 0 ≤ 1
+at-most-one true = omega arith
+at-most-one false = omega arith
 
 module _ (A B : List Float) (limit : Float) (N n s : ℕ) (z : State) (p q : ℕ) where
   answered-after : (o : Open) (k : Kind) (a : Answer) (f : Float → State) → ((v : Float) → AfterRecord N s o z k (f v)) → AfterStep N s o z k (settledStep a f)
@@ -63,7 +69,7 @@ module _ (A B : List Float) (limit : Float) (N n s : ℕ) (z : State) (p q : ℕ
 
   tested-after : (small? : Bool) → OpenRoom N s (busy C) z → AfterStep N s (busy C) z closesPivot (cond small? (stop 17) (going (closing z)))
   tested-after true room = tt
-  tested-after false room = record { progress = closed-after C room; room = tt; made = omega arith }
+  tested-after false room = record { progress = closed-after C room; room = tt; made = omega arith; gone = λ h. h }
 
   -- a record that passes 11 and 12 leads to such a state
   pub after-step : (o : Open) (k : Kind) → inOrder k o ≡ true → inTurn N n s k p q (progressIn o z) ≡ true → OpenRoom N s o z
@@ -72,25 +78,30 @@ module _ (A B : List Float) (limit : Float) (N n s : ℕ) (z : State) (p q : ℕ
   after-step idle (opens C) order turn room =
       let t = both (leb p n) (eqb q (suc (length (z .tables .c))) && leb q s) turn in
       let u = both (eqb q (suc (length (z .tables .c)))) (leb q s) (t .1) in
-      record { progress = refl; room = (refl, omega (arith, eqb-true q (suc (length (z .tables .c))) (u .0), leb-true q s (u .1))); made = omega arith }
+      let free : length (z .tables .c) < s = omega (arith, eqb-true q (suc (length (z .tables .c))) (u .0), leb-true q s (u .1)) in
+      record { progress = refl; room = (refl, free); made = omega arith; gone = λ h. h }
   after-step idle (opens Y) order turn room =
       let t = both (eqb p (suc (length (z .tables .y)))) (leb p N) turn in
-      record { progress = refl; room = (refl, omega (arith, eqb-true p (suc (length (z .tables .y))) (t .0), leb-true p N (t .1))); made = omega arith }
+      let free : length (z .tables .y) < N = omega (arith, eqb-true p (suc (length (z .tables .y))) (t .0), leb-true p N (t .1)) in
+      record { progress = refl; room = (refl, free); made = omega arith; gone = λ h. h }
   after-step idle (opens X) order turn room =
       let t = both (ltb 0 p && eqb (p + length (z .tables .x)) N) (leb p (length (z .tables .y))) turn in
       let u = both (ltb 0 p) (eqb (p + length (z .tables .x)) N) (t .0) in
-      record { progress = refl; room = (refl, omega (arith, ltb-true 0 p (u .0), eqb-true (p + length (z .tables .x)) N (u .1))); made = omega arith }
+      let free : length (z .tables .x) < N = omega (arith, ltb-true 0 p (u .0), eqb-true (p + length (z .tables .x)) N (u .1)) in
+      record { progress = refl; room = (refl, free); made = omega arith; gone = λ h. h }
   after-step (busy u) (subtracts t) order turn room =
-      answered-after (busy u) (subtracts t) (less (z .running) (entry (z .tables) C p) (entry (z .tables) t q)) (subtracted z)
-      (λ v. record { progress = refl; room = room; made = omega arith })
+      let a = entry (z .tables) C p in
+      let b = entry (z .tables) t q in
+      answered-after (busy u) (subtracts t) (less (z .running) a b) (subtracted z (vanishes a b))
+      (λ v. record { progress = refl; room = room; made = omega arith; gone = λ h. omega (arith, at-most-one (vanishes a b)) })
   after-step (busy u) divides order turn room =
       answered-after (busy u) divides (quotient (z .running) (entry (z .tables) C p)) (dividedBy z)
-      (λ v. record { progress = refl; room = room; made = omega arith })
-  after-step (busy C) closes order turn room = record { progress = closed-after C room; room = tt; made = omega arith }
-  after-step (busy Y) closes order turn room = record { progress = closed-after Y room; room = tt; made = omega arith }
-  after-step (busy X) closes order turn room = record { progress = closed-after X room; room = tt; made = omega arith }
+      (λ v. record { progress = refl; room = room; made = omega arith; gone = λ h. h })
+  after-step (busy C) closes order turn room = record { progress = closed-after C room; room = tt; made = omega arith; gone = λ h. h }
+  after-step (busy Y) closes order turn room = record { progress = closed-after Y room; room = tt; made = omega arith; gone = λ h. h }
+  after-step (busy X) closes order turn room = record { progress = closed-after X room; room = tt; made = omega arith; gone = λ h. h }
   after-step (busy C) closesPivot order turn room = tested-after (isSmall limit (z .running)) room
-  after-step o none order turn room = record { progress = refl; room = room; made = omega arith }
+  after-step o none order turn room = record { progress = refl; room = room; made = omega arith; gone = λ h. h }
   after-step (busy u) (opens t) order turn room = absurd (false≢true order)
   after-step idle (subtracts t) order turn room = absurd (false≢true order)
   after-step idle divides order turn room = absurd (false≢true order)

@@ -14,8 +14,8 @@ use Rattle.model.specs.Lists.{kept}
 use Rattle.model.specs.Label.{label}
 use Rattle.model.specs.Fill.{Plan, position, held, slot}
 use Rattle.model.specs.Arith.{plusZero, Answer, number, overflow, zeroDivisor, clean, isFinite, isZero, isSmall, isLimit, next}
-use Rattle.model.specs.Arith.{product, difference, quotient}
-use Rattle.model.specs.Formula.{Table, C, Y, X, Tables, Formula, entry, closed, starting, less, lessAll, over, tested, value}
+use Rattle.model.specs.Arith.{product, difference, quotient, vanishes}
+use Rattle.model.specs.Formula.{Table, C, Y, X, Tables, Formula, entry, closed, starting, less, lessAll, over, tested, value, vanishedIn}
 use Rattle.model.specs.Crout.{inner, lower, forward, upper, backward, nothing}
 use Rattle.model.specs.Run.{notFinite}
 use Rattle.model.specs.Agreement.{Values}
@@ -26,6 +26,8 @@ use Rattle.model.proofs.Fill.{not-held}
 use Rattle.model.proofs.Slots.{slot-range}
 use Rattle.model.proofs.Arith.{Good, nought, GoodAnswer, clean-good, difference-good, quotient-good}
 use Rattle.model.proofs.Arith.{product-nought-left, product-nought-right, quotient-nought, difference-nought, small-nought, large-nonzero}
+use Rattle.model.proofs.Arith.{vanishes-left, vanishes-right}
+use Rattle.model.proofs.Tally.{vanishedIn-cons}
 use Rattle.model.proofs.Picked.{shrunk, entry-held}
 use Rattle.model.proofs.Beside.{denseOf, reducedOf, formula-lower, formula-upper}
 
@@ -119,20 +121,31 @@ value-good : (A B : List Float) (limit : Float) (t : Tables) (f : Formula) → G
 unfolding value
 value-good A B limit t f g = tested-good limit (f .pivot) _ (over-good t (f .divisor) _ (lessAll-good t (f .table) _ (f .products) g))
 
--- ---- products that vanish
+-- ---- products that may be left out
 
--- a pair of dense Crout's, and the reduced formulas' pair for it where it is kept; where it isn't, its product is +0
+-- a product with a factor +0: it is +0, and not one that vanishes
+record Trivial (a b : Float) : Type 0 where
+  is-nought : product a b ≡ number plusZero
+  uncounted : vanishes a b ≡ false
+
+trivial-left : {b : Float} → Good b → Trivial plusZero b
+trivial-left good = record { is-nought = product-nought-left good; uncounted = vanishes-left _ }
+
+trivial-right : {a : Float} → Good a → Trivial a plusZero
+trivial-right good = record { is-nought = product-nought-right good; uncounted = vanishes-right _ }
+
+-- a pair of dense Crout's, and the reduced formulas' pair for it where it is kept; where it isn't, its product is trivial
 data Alike (t u : Tables) (tb : Table) (p q : ℕ × ℕ) : Bool → Type 0 where
   same : entry u C (q .0) ≡ entry t C (p .0) → entry u tb (q .1) ≡ entry t tb (p .1) → Alike t u tb p q true
-  vanishing : product (entry t C (p .0)) (entry t tb (p .1)) ≡ number plusZero → Alike t u tb p q false
+  dropped : Trivial (entry t C (p .0)) (entry t tb (p .1)) → Alike t u tb p q false
 
-less-vanishing : (acc : Answer) (a b : Float) → GoodAnswer acc → product a b ≡ number plusZero → next acc (λ v. less v a b) ≡ acc
+less-trivial : (acc : Answer) (a b : Float) → GoodAnswer acc → Trivial a b → next acc (λ v. less v a b) ≡ acc
 unfolding next less
-less-vanishing (number v) a b g e = rw e (difference-nought g)
-less-vanishing overflow a b g e = refl
-less-vanishing zeroDivisor a b g e = refl
+less-trivial (number v) a b g e = rw (e .is-nought) (difference-nought g)
+less-trivial overflow a b g e = refl
+less-trivial zeroDivisor a b g e = refl
 
--- leaving out products that vanish changes nothing
+-- leaving out trivial products changes no value
 lessAll-same : (t u : Tables) (tb : Table) (f g : ℕ → ℕ × ℕ) (p : ℕ → Bool) (hs : List ℕ)
     → Each (λ h. Alike t u tb (f h) (g h) (p h)) hs → (a : Answer) → GoodAnswer a
     → lessAll u tb a (map g (kept p hs)) ≡ lessAll t tb a (map f (kept (λ h. true) hs))
@@ -150,7 +163,19 @@ lessAll-same t u tb f g p (h ∷ hs) each a good = step (p h) (each h (List·Mem
     step true (same i j) rest =
         ap₂ (λ x y. lessAll u tb (after x y) (map g (kept p hs))) i j
         ∙ rest _ (next-good a _ (λ v. less-good v (entry t C (f h .0)) (entry t tb (f h .1))))
-    step false (vanishing e) rest = rest a good ∙ ap (λ b. lessAll t tb b (map f (kept (λ h. true) hs))) (sym (less-vanishing a _ _ good e))
+    step false (dropped e) rest = rest a good ∙ ap (λ b. lessAll t tb b (map f (kept (λ h. true) hs))) (sym (less-trivial a _ _ good e))
+
+-- and loses none that vanishes
+vanished-same : (t u : Tables) (tb : Table) (f g : ℕ → ℕ × ℕ) (p : ℕ → Bool) (hs : List ℕ) → Each (λ h. Alike t u tb (f h) (g h) (p h)) hs
+    → vanishedIn u tb (map g (kept p hs)) ≡ vanishedIn t tb (map f (kept (λ h. true) hs))
+unfolding kept vanishedIn
+vanished-same t u tb f g p [] each = refl
+vanished-same t u tb f g p (h ∷ hs) each = step (p h) (each h (List·Memᴰ·head refl)) (vanished-same t u tb f g p hs (λ k m. each k (List·Memᴰ·tail m)))
+  where
+    step : (b : Bool) → Alike t u tb (f h) (g h) b → vanishedIn u tb (map g (kept p hs)) ≡ vanishedIn t tb (map f (kept (λ h. true) hs))
+        → vanishedIn u tb (map g (cond b (h ∷ kept p hs) (kept p hs))) ≡ vanishedIn t tb (f h ∷ map f (kept (λ h. true) hs))
+    step true (same i j) rest = rw (vanishedIn-cons u, vanishedIn-cons t, i, j, rest)
+    step false (dropped e) rest = rw (vanishedIn-cons t, e .uncounted) (omega arith)
 
 -- ---- dense Crout's tables while they are worked out
 
@@ -248,13 +273,13 @@ module _ {N n : ℕ} {L : Plan} {t : Tables} (sound : Sound N L n t) where
   alike-pair : (i h j : ℕ) → Inside N i h → Inside N h j → (a b : Bool) → held N L i h ≡ a → held N L h j ≡ b
       → Alike t (shrunk N L t) C (label N i h, label N h j) (slot N L i h, slot N L h j) (a && b)
   alike-pair i h j left right true true p q = same (entry-held N L i h left t p) (entry-held N L h j right t q)
-  alike-pair i h j left right true false p q = vanishing (rw (sound .unheld h j right q) (product-nought-right (entry-good C _)))
-  alike-pair i h j left right false b p q = vanishing (rw (sound .unheld i h left p) (product-nought-left (entry-good C _)))
+  alike-pair i h j left right true false p q = dropped (rw (sound .unheld h j right q) (trivial-right (entry-good C _)))
+  alike-pair i h j left right false b p q = dropped (rw (sound .unheld i h left p) (trivial-left (entry-good C _)))
 
   alike-single : (tb : Table) (i h : ℕ) → Inside N i h → entry (shrunk N L t) tb h ≡ entry t tb h → (a : Bool) → held N L i h ≡ a
       → Alike t (shrunk N L t) tb (label N i h, h) (slot N L i h, h) a
   alike-single tb i h inside e true p = same (entry-held N L i h inside t p) e
-  alike-single tb i h inside e false p = vanishing (rw (sound .unheld i h inside p) (product-nought-left (entry-good tb _)))
+  alike-single tb i h inside e false p = dropped (rw (sound .unheld i h inside p) (trivial-left (entry-good tb _)))
 
   inner-same : (i j m : ℕ) → Inside N i j → m ≤ i → m ≤ j → (a : Answer) → GoodAnswer a
       → lessAll (shrunk N L t) C a (inner N L (slot N L) (held N L) i j m) ≡ lessAll t C a (inner N L (label N) (λ i j. true) i j m)
@@ -376,3 +401,52 @@ module _ {N n : ℕ} {L : Plan} {A B : List Float} {limit : Float} {t : Tables} 
         → value A B limit (shrunk N L t) (backward N L (slot N L) (held N L) i) ≡ value A B limit t (backward N L (label N) (λ i j. true) i)
     unfolding value backward tested over starting shrunk entry
     backward-same i low high = singles-same sound X i _ (λ h. refl) (falling-each _ _ N (N - i) (λ h l r. omega arith)) _ (starting-good X i)
+
+-- ---- the products that vanish, on both sides
+
+-- how many of a formula's products vanish
+abbrev pub vanishedBy : Tables → Formula → ℕ
+vanishedBy t f = vanishedIn t (f .table) (f .products)
+
+module _ {N n : ℕ} {L : Plan} {t : Tables} (sound : Sound N L n t) where
+  inner-vanished : (i j m : ℕ) → Inside N i j → m ≤ i → m ≤ j
+      → vanishedIn (shrunk N L t) C (inner N L (slot N L) (held N L) i j m) ≡ vanishedIn t C (inner N L (label N) (λ i j. true) i j m)
+  unfolding inner
+  inner-vanished i j m inside p q = vanished-same t (shrunk N L t) C _ _ _ _
+      (rising-each _ (λ h. h) 1 (m - 1) (λ h low high. alike-pair sound i h j (omega arith) (omega arith) (held N L i h) (held N L h j) refl refl))
+
+  singles-vanished : (tb : Table) (i : ℕ) (hs : List ℕ) → ((h : ℕ) → entry (shrunk N L t) tb h ≡ entry t tb h) → Each (Inside N i) hs
+      → vanishedIn (shrunk N L t) tb (map (λ h. (slot N L i h, h)) (kept (λ h. held N L i h) hs))
+      ≡ vanishedIn t tb (map (λ h. (label N i h, h)) (kept (λ h. true) hs))
+  singles-vanished tb i hs e inside = vanished-same t (shrunk N L t) tb _ _ _ hs (λ h m. alike-single sound tb i h (inside h m) (e h) (held N L i h) refl)
+
+  pub place-vanished : (i j : ℕ) → Inside N i j → vanishedBy (shrunk N L t) (reducedOf N L i j) ≡ vanishedBy t (denseOf N L i j)
+  unfolding lower upper
+  place-vanished i j inside = elim (decLe j i) [
+    | yes h ↦ rw (formula-lower N L (slot N L) _ i j h, formula-lower N L (label N) _ i j h) (inner-vanished i j j inside h (omega arith))
+    | no h ↦ let g : i < j = omega arith in
+        rw (formula-upper N L (slot N L) _ i j g, formula-upper N L (label N) _ i j g) (inner-vanished i j i inside (omega arith) (omega arith))
+  ]
+
+  -- none vanishes at a place that isn't held
+  pub unheld-vanished : (i j : ℕ) → Inside N i j → held N L i j ≡ false → vanishedBy t (denseOf N L i j) ≡ 0
+  unfolding vanishedIn lower upper kept
+  unheld-vanished i j inside e = elim (decLe j i) [
+    | yes h ↦ rw (formula-lower N L (label N) _ i j h, ← inner-vanished i j j inside h (omega arith), inner-none sound i j j h (omega arith) e)
+    | no h ↦ let g : i < j = omega arith in
+        rw (
+          formula-upper N L (label N) _ i j g,
+          ← inner-vanished i j i inside (omega arith) (omega arith),
+          inner-none sound i j i (omega arith) (omega arith) e,
+        )
+  ]
+
+  pub forward-vanished : (m : ℕ) → 1 ≤ m → m ≤ N
+      → vanishedBy (shrunk N L t) (forward N L (slot N L) (held N L) m) ≡ vanishedBy t (forward N L (label N) (λ i j. true) m)
+  unfolding forward shrunk entry
+  forward-vanished m low high = singles-vanished Y m _ (λ h. refl) (rising-each _ (λ h. h) 1 (m - 1) (λ h l r. omega arith))
+
+  pub backward-vanished : (i : ℕ) → 1 ≤ i → i ≤ N
+      → vanishedBy (shrunk N L t) (backward N L (slot N L) (held N L) i) ≡ vanishedBy t (backward N L (label N) (λ i j. true) i)
+  unfolding backward shrunk entry
+  backward-vanished i low high = singles-vanished X i _ (λ h. refl) (falling-each _ _ N (N - i) (λ h l r. omega arith))

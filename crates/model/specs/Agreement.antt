@@ -1,4 +1,5 @@
--- Demand 3 as a statement: what the run of a compiled program is beside dense Crout. Document 01, "Set beside dense Crout"; document 02, A.1. Definitions only.
+-- Demand 3 as a statement: what the run of a compiled program is beside dense Crout. Document 01, "Set beside dense Crout"; document 02, A.1 and A.5.
+-- Definitions only.
 use Prim.Native.Nat.{ℕ, _+_}
 use mathlib.Core.Bool.{true}
 use mathlib.Core.Path.{_≡_}
@@ -38,8 +39,8 @@ pub record Accepted (N : ℕ) (L : Plan) (A B : List Float) (limit : Float) : Ty
 
 -- what is compared of two endings
 pub data Seen : Type 0 where
-  -- the tables, the products and the quotients
-  whole : Tables → ℕ → ℕ → Seen
+  -- the tables, the products, the quotients and the products that vanished
+  whole : Tables → ℕ → ℕ → ℕ → Seen
   -- 16 or 17, and the table and number of the target
   ended : ℕ → Table → ℕ → Seen
   -- a refusal before the first record
@@ -47,7 +48,7 @@ pub data Seen : Type 0 where
 
 -- a run's ending, but for the record of its refusal
 unfoldable pub seen : Outcome → Seen
-seen (solution t products quotients) = whole t products quotients
+seen (solution t products quotients vanished) = whole t products quotients vanished
 seen (stopped r index t k) = ended r t k
 seen (refusedBy r d) = early r d
 
@@ -56,16 +57,17 @@ unfoldable pub packed : ℕ → Plan → Tables → Tables
 packed N L t = record { order = t .order; c = map (λ p. entry t C (label N (p .0) (p .1))) (heldPlaces N L); y = t .y; x = t .x }
 
 -- Dense Crout's ending as the run has to show it: X and Y as they are, C(J) the entry of the J-th held place, the plan's product count, and a
--- quotient for each y and each held place above the diagonal; a refusal in C by the slot of its place.
+-- quotient for each y and each held place above the diagonal; of the products that vanish, "program and dense method agree on the number" (A.5); a refusal
+-- in C by the slot of its place.
 unfoldable pub compressed : ℕ → Plan → Ended → Seen
-compressed N L (solved t) = whole (packed N L t) (productCount N L) (N + above N L)
+compressed N L (solved t vanished) = whole (packed N L t) (productCount N L) (N + above N L) vanished
 compressed N L (refused r C k) = ended r C (slot N L (place N k .0) (place N k .1))
 compressed N L (refused r Y k) = ended r Y k
 compressed N L (refused r X k) = ended r X k
 
 -- ---- the statements; their proofs stand in proofs/
 
--- Demand 3, with A.1's limit: the run of the compiled program is dense Crout.
+-- Demand 3, with A.1's limit and A.5's count: the run of the compiled program is dense Crout.
 abbrev pub Agrees : ℕ → Plan → List Float → List Float → Float → Type 0
 Agrees N L A B limit = Accepted N L A B limit
     → seen (ran (compiled N L) A B limit (slots N L) N N) ≡ compressed N L (dense N L A B limit)
@@ -73,4 +75,4 @@ Agrees N L A B limit = Accepted N L A B limit
 -- where a pivot is missing, "dense Crout ends in 16 or 17 on all finite A and B", for every limit
 abbrev pub NeverSolved : ℕ → Plan → List Float → List Float → Float → Type 0
 NeverSolved N L A B limit = Given N L A B limit → (missing N L ≡ 0 → ⊥)
-    → (t : Tables) → dense N L A B limit ≡ solved t → ⊥
+    → (t : Tables) (g : ℕ) → dense N L A B limit ≡ solved t g → ⊥

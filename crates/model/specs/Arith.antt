@@ -1,6 +1,7 @@
--- One float operation: document 01, "Dense Crout" ("rounded once", "a zero result becomes +0", 16 and 17) and "Running"; document 02, A.1. Definitions only.
+-- One float operation: document 01, "Dense Crout" ("rounded once", "a zero result becomes +0", 16 and 17) and "Running"; document 02, A.1 and A.5.
+-- Definitions only.
 use Prim.Native.Nat.{zero, suc}
-use mathlib.Core.Bool.{Bool, true, false, cond, _&&_}
+use mathlib.Core.Bool.{Bool, true, false, cond, not, _&&_}
 use lib.IntN.{pos}
 use lib.Ieee as Ieee
 use lib.Ieee.{Float, nan, inf, fin, binary64}
@@ -48,6 +49,10 @@ difference a b = settled (Ieee.sub binary64 a b)
 
 unfoldable pub quotient : Float → Float → Answer
 quotient a b = cond (isZero b) zeroDivisor (settled (Ieee.div binary64 a b))
+
+-- "when two non-zero factors gave zero": what a product tells beside its answer, which is +0 then (A.5)
+unfoldable pub vanishes : Float → Float → Bool
+vanishes a b = not (isZero a) && (not (isZero b) && isZero (Ieee.mul binary64 a b))
 
 -- "A pivot l with -t ≤ l ≤ t", t being the threshold, here called the limit: by value, so that -0 is 0 (A.1)
 unfoldable pub isSmall : Float → Float → Bool

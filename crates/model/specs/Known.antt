@@ -1,4 +1,4 @@
--- Document 01's "Known plans and values" and its listing, and values for document 02's A.1, as one theorem about the definitions.
+-- Document 01's "Known plans and values" and its listing, and values for document 02's A.1 and A.5, as one theorem about the definitions.
 use Prim.Native.Nat.{ℕ}
 use mathlib.Core.Bool.{true, false}
 use mathlib.Core.Path.{_≡_, refl}
@@ -9,8 +9,8 @@ use Rattle.model.specs.Lists.{rising, falling, joined, kept, total, some
 use Rattle.model.specs.Label.{label, column, row, places, place}
 use Rattle.model.specs.Fill.{Plan, positionFrom, position, heldWithin, held, heldPlaces, slots, slot}
 use Rattle.model.specs.Fill.{missingFrom, missing, pairsAt, below, above, productCount, recordCount}
-use Rattle.model.specs.Arith.{plusZero, clean, settled, isZero, isFinite, product, difference, quotient, isSmall, isLimit, next}
-use Rattle.model.specs.Formula.{C, Y, Tables, solved, refused, entry, closed, starting, less, lessAll, over, tested, value, worked}
+use Rattle.model.specs.Arith.{plusZero, clean, settled, isZero, isFinite, product, difference, quotient, vanishes, isSmall, isLimit, next}
+use Rattle.model.specs.Formula.{C, Y, Tables, solved, refused, entry, closed, starting, less, lessAll, over, tested, value, vanishedIn, worked}
 use Rattle.model.specs.Crout.{inner, lower, forward, upper, backward, batch, formulas, denseFormulas, reducedFormulas, dense}
 use Rattle.model.specs.Program.{opening, recordsOf, chained, compiledRecords, compiled}
 use Rattle.model.specs.Compile.{written, refusal, judged, compiles}
@@ -49,6 +49,19 @@ aboveOne = fin false 4503599627370497 (negsuc 51)
 abbrev nano : Float
 nano = fin false 4835703278458517 (negsuc 81)
 
+-- 1 as it is stored, 10^-200, 10^300 and 10^-300
+abbrev plusOne : Float
+plusOne = fin false 1 (pos 0)
+
+abbrev e₋₂₀₀ : Float
+e₋₂₀₀ = fin false 1723641332219371 (negsuc 714)
+
+abbrev e₃₀₀ : Float
+e₃₀₀ = fin false 1681218273811815 (pos 946)
+
+abbrev e₋₃₀₀ : Float
+e₋₃₀₀ = fin false 6032057205060441 (negsuc 1048)
+
 -- the plan of document 002, the full plan of order 2 and the plan of order 1
 abbrev plan₈ : Plan
 plan₈ = 1 ∷ 2 ∷ 4 ∷ 8 ∷ 10 ∷ 12 ∷ 15 ∷ 21 ∷ 28 ∷ 30 ∷ 33 ∷ 36 ∷ []
@@ -66,11 +79,17 @@ ran₂ A B limit = ran (compiled 2 full₂) A B limit 4 2 2
 abbrev ran₁ : List Float → List Float → Float → Outcome
 ran₁ A B limit = ran (compiled 1 one) A B limit 1 1 1
 
--- the coefficients of T3
+-- the coefficients of T3, and those of G1, G2 and G3
 abbrev nearlyEqual : List Float
 nearlyEqual = int 1 ∷ int 1 ∷ int 1 ∷ aboveOne ∷ []
 
--- the tables of V1 and of V4, and of T2, T3 and T4
+abbrev weak : Float → List Float
+weak v = plusOne ∷ v ∷ v ∷ plusOne ∷ []
+
+abbrev strong : List Float
+strong = e₃₀₀ ∷ plusZero ∷ neg e₋₃₀₀ ∷ plusOne ∷ []
+
+-- the tables of V1 and of V4, of T2, T3 and T4, and of G1, G2 and G3
 abbrev tables₁ : Tables
 tables₁ = record { order = 2; c = int 2 ∷ int 4 ∷ half ∷ int 2 ∷ []; y = ints (2 ∷ 2 ∷ []); x = ints (1 ∷ 2 ∷ []) }
 
@@ -91,6 +110,15 @@ nearly = record {
 abbrev noughts : Tables
 noughts = record { order = 1; c = smallest ∷ []; y = plusZero ∷ []; x = plusZero ∷ [] }
 
+abbrev ones : Tables
+ones = record { order = 2; c = weak e₋₂₀₀; y = plusOne ∷ plusOne ∷ []; x = plusOne ∷ plusOne ∷ [] }
+
+abbrev cut : Tables
+cut = record { order = 2; c = weak tiny; y = tiny ∷ tiny ∷ []; x = tiny ∷ tiny ∷ [] }
+
+abbrev flat : Tables
+flat = record { order = 2; c = e₃₀₀ ∷ plusZero ∷ plusZero ∷ plusOne ∷ []; y = plusZero ∷ plusOne ∷ []; x = plusZero ∷ plusOne ∷ [] }
+
 pub record Known : Type 0 where
   p1 : (label 6 5 2 ≡ 15) × (label 6 1 6 ≡ 11) × (label 6 6 6 ≡ 36) × (place 6 15 ≡ (5, 2)) × (place 6 11 ≡ (1, 6)) × (place 6 36 ≡ (6, 6))
   p2 : compiles 2 (1 ∷ 2 ∷ 3 ∷ []) 4 92 ≡ written 4 3 23
@@ -100,24 +128,29 @@ pub record Known : Type 0 where
   p6 : (compiles 2 (1 ∷ 1 ∷ []) 4 92 ≡ refusal 4 2) × (compiles 2 (5 ∷ []) 4 92 ≡ refusal 3 1)
   p7 : (compiles 0 [] 0 0 ≡ refusal 1 0) × (compiles 601 [] 361201 0 ≡ refusal 1 0)
   p8 : compiles 6 plan₈ 36 364 ≡ written 18 19 91
-  v1 : (dense 2 full₂ (ints (2 ∷ 4 ∷ 1 ∷ 4 ∷ [])) (ints (4 ∷ 12 ∷ [])) plusZero ≡ solved tables₁)
-      × (ran₂ (ints (2 ∷ 4 ∷ 1 ∷ 4 ∷ [])) (ints (4 ∷ 12 ∷ [])) plusZero ≡ solution tables₁ 3 3)
+  v1 : (dense 2 full₂ (ints (2 ∷ 4 ∷ 1 ∷ 4 ∷ [])) (ints (4 ∷ 12 ∷ [])) plusZero ≡ solved tables₁ 0)
+      × (ran₂ (ints (2 ∷ 4 ∷ 1 ∷ 4 ∷ [])) (ints (4 ∷ 12 ∷ [])) plusZero ≡ solution tables₁ 3 3 0)
   v2 : (dense 2 full₂ (ints (1 ∷ 1 ∷ 1 ∷ 1 ∷ [])) (ints (4 ∷ 12 ∷ [])) plusZero ≡ refused 17 C 4)
       × (ran₂ (ints (1 ∷ 1 ∷ 1 ∷ 1 ∷ [])) (ints (4 ∷ 12 ∷ [])) plusZero ≡ stopped 17 13 C 4)
   v3 : (dense 1 one (tiny ∷ []) (huge ∷ []) plusZero ≡ refused 16 Y 1) × (ran₁ (tiny ∷ []) (huge ∷ []) plusZero ≡ stopped 16 4 Y 1)
-  v4 : (dense 1 one (minusOne ∷ []) (plusZero ∷ []) plusZero ≡ solved tables₄)
-      × (ran₁ (minusOne ∷ []) (plusZero ∷ []) plusZero ≡ solution tables₄ 0 1)
+  v4 : (dense 1 one (minusOne ∷ []) (plusZero ∷ []) plusZero ≡ solved tables₄ 0)
+      × (ran₁ (minusOne ∷ []) (plusZero ∷ []) plusZero ≡ solution tables₄ 0 1 0)
   -- A.1: a pivot of exactly -t, one just above t, and a second pivot near 0, also without a limit; a limit -0, one that is negative, and one with a
   -- value that is not finite
   t1 : (dense 1 one (neg half ∷ []) (ints (1 ∷ [])) half ≡ refused 17 C 1) × (ran₁ (neg half ∷ []) (ints (1 ∷ [])) half ≡ stopped 17 2 C 1)
-  t2 : (dense 1 one (half ∷ []) (ints (1 ∷ [])) belowHalf ≡ solved halves) × (ran₁ (half ∷ []) (ints (1 ∷ [])) belowHalf ≡ solution halves 0 1)
+  t2 : (dense 1 one (half ∷ []) (ints (1 ∷ [])) belowHalf ≡ solved halves 0) × (ran₁ (half ∷ []) (ints (1 ∷ [])) belowHalf ≡ solution halves 0 1 0)
   t3 : (dense 2 full₂ nearlyEqual (ints (4 ∷ 12 ∷ [])) nano ≡ refused 17 C 4)
       × (ran₂ nearlyEqual (ints (4 ∷ 12 ∷ [])) nano ≡ stopped 17 13 C 4)
-      × (ran₂ nearlyEqual (ints (4 ∷ 12 ∷ [])) plusZero ≡ solution nearly 3 3)
-  t4 : (dense 1 one (smallest ∷ []) (plusZero ∷ []) (neg plusZero) ≡ solved noughts)
-      × (ran₁ (smallest ∷ []) (plusZero ∷ []) (neg plusZero) ≡ solution noughts 0 1)
+      × (ran₂ nearlyEqual (ints (4 ∷ 12 ∷ [])) plusZero ≡ solution nearly 3 3 0)
+  t4 : (dense 1 one (smallest ∷ []) (plusZero ∷ []) (neg plusZero) ≡ solved noughts 0)
+      × (ran₁ (smallest ∷ []) (plusZero ∷ []) (neg plusZero) ≡ solution noughts 0 1 0)
   t5 : ran₁ (ints (1 ∷ [])) (ints (1 ∷ [])) (neg smallest) ≡ refusedBy 21 0
   t6 : ran₁ (ints (1 ∷ [])) (inf false ∷ []) minusOne ≡ refusedBy 15 1
+  -- A.5: one product that vanishes; one in each of kinds 4, 5 and 6; and none where two quotients round to zero and the products have a factor that is zero
+  g1 : (dense 2 full₂ (weak e₋₂₀₀) (plusOne ∷ plusOne ∷ []) plusZero ≡ solved ones 1)
+      × (ran₂ (weak e₋₂₀₀) (plusOne ∷ plusOne ∷ []) plusZero ≡ solution ones 3 3 1)
+  g2 : (dense 2 full₂ (weak tiny) (tiny ∷ tiny ∷ []) plusZero ≡ solved cut 3) × (ran₂ (weak tiny) (tiny ∷ tiny ∷ []) plusZero ≡ solution cut 3 3 3)
+  g3 : (dense 2 full₂ strong (e₋₃₀₀ ∷ plusOne ∷ []) plusZero ≡ solved flat 0) × (ran₂ strong (e₋₃₀₀ ∷ plusOne ∷ []) plusZero ≡ solution flat 3 3 0)
   -- the listing for input `1 1`, a record a line
   listing : compiled 1 one
       ≡ 1 ∷ 1 ∷ 1 ∷ 1
@@ -133,7 +166,8 @@ pub record Known : Type 0 where
 pub known : Known
 unfolding rising falling joined kept total some count label column row places place
     positionFrom position heldWithin held heldPlaces slots slot missingFrom missing pairsAt below above productCount recordCount
-    clean settled isZero isFinite product difference quotient isSmall isLimit next entry closed starting less lessAll over tested value worked
+    clean settled isZero isFinite product difference quotient vanishes isSmall isLimit next
+    entry closed starting less lessAll over tested value vanishedIn worked
     inner lower forward upper backward batch formulas denseFormulas reducedFormulas dense
     opening recordsOf chained compiledRecords compiled judged compiles
     chainAfter chain kindOf formed inOrder inTurn complete checkLinks check step follow followed notFinite checkValues ran
@@ -157,5 +191,8 @@ known = record {
   t4 = (refl, refl);
   t5 = refl;
   t6 = refl;
+  g1 = (refl, refl);
+  g2 = (refl, refl);
+  g3 = (refl, refl);
   listing = refl;
 }

@@ -1,17 +1,17 @@
--- A run of a program, and what it leaves in the lent tables: document 01, "Running", 14 to 17; document 02, A.1. Definitions only.
-use Prim.Native.Nat.{ℕ, suc}
-use mathlib.Core.Bool.{true, false, cond, _&&_}
+-- A run of a program, and what it leaves in the lent tables: document 01, "Running", 14 to 17; document 02, A.1 and A.5. Definitions only.
+use Prim.Native.Nat.{ℕ, suc, _+_}
+use mathlib.Core.Bool.{Bool, true, false, cond, _&&_}
 use mathlib.Core.List.{List, [], _∷_}
 use lib.Dec.{eqb}
 use lib.ListN.{length, replicate}
 use lib.Ieee.{Float}
-use Rattle.model.specs.Arith.{plusZero, Answer, number, overflow, zeroDivisor, quotient, isFinite, isSmall, isLimit}
+use Rattle.model.specs.Arith.{plusZero, Answer, number, overflow, zeroDivisor, quotient, isFinite, vanishes, isSmall, isLimit}
 use Rattle.model.specs.Formula.{Table, C, Y, X, numberOf, Tables, entry, closed, starting, less}
 use Rattle.model.specs.Crout.{nothing}
 use Rattle.model.specs.Check.{Link, Kind, opens, subtracts, divides, closes, closesPivot, none, kindOf, check, chain, Verdict, fine, refusal, word}
 
 -- "The runner's state is the open target, its running number and the counts of closed entries": here the closed entries themselves, and
--- beside them the products and quotients made.
+-- beside them the products and quotients made, and the products that vanished.
 pub record State : Type 0 where
   pub tables : Tables
   pub table : Table
@@ -19,11 +19,12 @@ pub record State : Type 0 where
   pub running : Float
   pub products : ℕ
   pub quotients : ℕ
+  pub vanished : ℕ
 
 -- how a run ends
 pub data Outcome : Type 0 where
-  -- the closed tables, the products and the quotients made
-  solution : Tables → ℕ → ℕ → Outcome
+  -- the closed tables, the products and the quotients made, and the products that vanished
+  solution : Tables → ℕ → ℕ → ℕ → Outcome
   -- 16 or 17, the record, and the table and number of the open target
   stopped : ℕ → ℕ → Table → ℕ → Outcome
   -- 7 to 15 or 21, and the detail
@@ -36,13 +37,30 @@ pub data Stepped : Type 0 where
 
 -- the states after the kinds' steps: a target is opened, a product subtracted, a quotient formed, the target closed
 abbrev pub opened : State → Table → ℕ → Float → State
-opened z t k v = record { tables = z .tables; table = t; target = k; running = v; products = z .products; quotients = z .quotients }
+opened z t k v = record { tables = z .tables; table = t; target = k; running = v; products = z .products; quotients = z .quotients; vanished = z .vanished }
 
-abbrev pub subtracted : State → Float → State
-subtracted z v = record { tables = z .tables; table = z .table; target = z .target; running = v; products = suc (z .products); quotients = z .quotients }
+-- "The runner adds these up": gone says whether the product vanished
+abbrev pub subtracted : State → Bool → Float → State
+subtracted z gone v = record {
+  tables = z .tables;
+  table = z .table;
+  target = z .target;
+  running = v;
+  products = suc (z .products);
+  quotients = z .quotients;
+  vanished = z .vanished + cond gone 1 0;
+}
 
 abbrev pub dividedBy : State → Float → State
-dividedBy z v = record { tables = z .tables; table = z .table; target = z .target; running = v; products = z .products; quotients = suc (z .quotients) }
+dividedBy z v = record {
+  tables = z .tables;
+  table = z .table;
+  target = z .target;
+  running = v;
+  products = z .products;
+  quotients = suc (z .quotients);
+  vanished = z .vanished;
+}
 
 abbrev pub closing : State → State
 closing z = record {
@@ -52,6 +70,7 @@ closing z = record {
   running = z .running;
   products = z .products;
   quotients = z .quotients;
+  vanished = z .vanished;
 }
 
 -- an operation's answer as a step
@@ -61,12 +80,15 @@ settledStep overflow f = stop 16
 settledStep zeroDivisor f = stop 17
 
 -- One record: kind, p and q. At kind 9 "a pivot l with -t ≤ l ≤ t is refused by 17", t being the limit; "a divisor at kind 7 is still refused only if
--- zero" (A.1).
+-- zero" (A.1). A product tells whether it vanishes (A.5).
 unfoldable pub step : List Float → List Float → Float → State → Kind → ℕ → ℕ → Stepped
 step A B limit z (opens C) p q = going (opened z C q (starting A B (z .tables) C p))
 step A B limit z (opens Y) p q = going (opened z Y p (starting A B (z .tables) Y p))
 step A B limit z (opens X) p q = going (opened z X p (starting A B (z .tables) X p))
-step A B limit z (subtracts t) p q = settledStep (less (z .running) (entry (z .tables) C p) (entry (z .tables) t q)) (subtracted z)
+step A B limit z (subtracts t) p q =
+    let a = entry (z .tables) C p in
+    let b = entry (z .tables) t q in
+    settledStep (less (z .running) a b) (subtracted z (vanishes a b))
 step A B limit z divides p q = settledStep (quotient (z .running) (entry (z .tables) C p)) (dividedBy z)
 step A B limit z closes p q = going (closing z)
 step A B limit z closesPivot p q = cond (isSmall limit (z .running)) (stop 17) (going (closing z))
@@ -86,11 +108,11 @@ follow A B limit z (l ∷ ls) = elim (step A B limit z (kindOf (l .at .kind)) (l
 
 -- nothing opened, nothing closed
 abbrev pub fresh : ℕ → State
-fresh N = record { tables = nothing N; table = C; target = 0; running = plusZero; products = 0; quotients = 0 }
+fresh N = record { tables = nothing N; table = C; target = 0; running = plusZero; products = 0; quotients = 0; vanished = 0 }
 
 -- a run's ending by where its records lead
 unfoldable pub followed : Followed → Outcome
-followed (through z) = solution (z .tables) (z .products) (z .quotients)
+followed (through z) = solution (z .tables) (z .products) (z .quotients) (z .vanished)
 followed (halted r index t k) = stopped r index t k
 
 -- the position, from 1, of the first value that is not finite; 0 if all are
@@ -123,22 +145,22 @@ ran W A B limit lc ly lx =
 
 -- what the caller is told; the closed values stand in the lent tables
 pub data Reply : Type 0 where
-  -- the products and the quotients made
-  solves : ℕ → ℕ → Reply
+  -- the products and the quotients made, and the products that vanished
+  solves : ℕ → ℕ → ℕ → Reply
   -- 16 or 17, the record, and the table's number and the number of the target
   stops : ℕ → ℕ → ℕ → ℕ → Reply
   -- 7 to 15 or 21, and the detail
   refuses : ℕ → ℕ → Reply
 
 unfoldable pub reply : Outcome → Reply
-reply (solution t products quotients) = solves products quotients
+reply (solution t products quotients vanished) = solves products quotients vanished
 reply (stopped r index t k) = stops r index (numberOf t) k
 reply (refusedBy r d) = refuses r d
 
 -- What a run that ends so leaves in the lent table t, which held vs: that after 7 to 15 and 21, +0 everywhere after 16 and 17, the closed values on a solution.
 unfoldable pub leaves : Outcome → Table → List Float → List Float
-leaves (solution t p q) C vs = t .c
-leaves (solution t p q) Y vs = t .y
-leaves (solution t p q) X vs = t .x
+leaves (solution t p q g) C vs = t .c
+leaves (solution t p q g) Y vs = t .y
+leaves (solution t p q g) X vs = t .x
 leaves (stopped r k u n) t vs = replicate (length vs) plusZero
 leaves (refusedBy r d) t vs = vs

@@ -1,5 +1,5 @@
 -- What `solve` answers and leaves, by the checks 1 to 6, 14, 15 and 21 and by dense Crout alone: document 01, "Set beside dense Crout"; document 02,
--- A.1. Definitions only.
+-- A.1 and A.5. Definitions only.
 use Prim.Native.Nat.{ℕ}
 use mathlib.Core.Bool.{true, false, _&&_}
 use mathlib.Core.List.{List}
@@ -32,21 +32,21 @@ solving N L A B limit work words c y x =
 
 -- what the caller is told of it, the record of a refusal left out, which dense Crout has no counterpart of
 pub data Told : Type 0 where
-  -- the products and the quotients
-  solved : ℕ → ℕ → Told
+  -- the products, the quotients and the products that vanished
+  solved : ℕ → ℕ → ℕ → Told
   -- 16 or 17, and the table's number and the number of the target
   stopped : ℕ → ℕ → ℕ → Told
   -- 1 to 15 or 21, and the detail
   refused : ℕ → ℕ → Told
 
 unfoldable pub told : Seen → Told
-told (whole t products quotients) = solved products quotients
+told (whole t products quotients vanished) = solved products quotients vanished
 told (ended r t k) = stopped r (numberOf t) k
 told (early r d) = refused r d
 
 -- a reply without its record
 abbrev pub tellsOf : Reply → Told
-tellsOf (solves products quotients) = solved products quotients
+tellsOf (solves products quotients vanished) = solved products quotients vanished
 tellsOf (stops r index t k) = stopped r t k
 tellsOf (refuses r d) = refused r d
 
@@ -59,8 +59,8 @@ replied N L A B limit work words c y x = elim (compiles N L work words) [
 
 -- what it leaves in the lent table t, which held vs
 unfoldable pub leftIn : Seen → Table → List Float → List Float
-leftIn (whole t products quotients) C vs = t .c
-leftIn (whole t products quotients) Y vs = t .y
-leftIn (whole t products quotients) X vs = t .x
+leftIn (whole t products quotients vanished) C vs = t .c
+leftIn (whole t products quotients vanished) Y vs = t .y
+leftIn (whole t products quotients vanished) X vs = t .x
 leftIn (ended r u k) t vs = replicate (length vs) plusZero
 leftIn (early r d) t vs = vs

@@ -27,7 +27,7 @@ leaves-refused o r d c y x e = rw e (refl, (refl, (refl, refl)))
 
 -- the reply to a solution
 abbrev pub SolvedReply : Reply → Type 0
-SolvedReply (solves p q) = Unit {0}
+SolvedReply (solves p q g) = Unit {0}
 SolvedReply (stops r k t n) = ⊥
 SolvedReply (refuses r d) = ⊥
 
@@ -36,7 +36,7 @@ module _ (c y x c₁ y₁ x₁ : List Float) where
   pub leaves-solved : (o : Outcome) (r : Reply) → SolvedReply r → r ≡ reply o → c₁ ≡ stands o C c₁ → y₁ ≡ stands o Y y₁ → x₁ ≡ stands o X x₁
       → Leaves o r c y x c₁ y₁ x₁
   unfolding reply leaves stands
-  leaves-solved (solution t p q) r is e ec ey ex = (e, (ec, (ey, ex)))
+  leaves-solved (solution t p q g) r is e ec ey ex = (e, (ec, (ey, ex)))
   leaves-solved (stopped n k u m) r is e ec ey ex = absurd (subst SolvedReply e is)
   leaves-solved (refusedBy n d) r is e ec ey ex = absurd (subst SolvedReply e is)
 
@@ -44,7 +44,7 @@ module _ (c y x c₁ y₁ x₁ : List Float) where
       → length c₁ ≡ length c → length y₁ ≡ length y → length x₁ ≡ length x
       → Leaves o r c y x (replicate (length c₁) plusZero) (replicate (length y₁) plusZero) (replicate (length x₁) plusZero)
   unfolding reply leaves
-  leaves-cleared (solution t p q) r is runs e lc ly lx = absurd (is (subst SolvedReply (sym e) tt))
+  leaves-cleared (solution t p q g) r is runs e lc ly lx = absurd (is (subst SolvedReply (sym e) tt))
   leaves-cleared (stopped n k u m) r is runs e lc ly lx = rw (lc, ly, lx) (e, (refl, (refl, refl)))
 
 module _ (W : List ℕ) (A B c y x : List Float) where

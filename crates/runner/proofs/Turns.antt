@@ -75,7 +75,7 @@ module _ {W : List ℕ} {A B : List Float} {limit : Float} where
 
   module _ {c y x : List Float} {z : State} where
     -- at the end of the chain everything is closed
-    pub ended : NextRuns W A B limit c y x z 0 → RunEnds W A B limit c y x (solves (z .products) (z .quotients))
+    pub ended : NextRuns W A B limit c y x z 0 → RunEnds W A B limit c y x (solves (z .products) (z .quotients) (z .vanished))
     unfolding reply stands complete Run.followed
     ended b =
         let fit = b .ran .fit in
@@ -108,6 +108,7 @@ module _ {W : List ℕ} {A B : List Float} {limit : Float} where
           record {
             sound = b .ran .sound;
             few = omega (arith, before .made, fits, b .ran .passed .few);
+            gone = before .gone;
             rows = fit .in-b ∙ sym (fit .in-y);
             allowed =
                 relies (word W 0) (word W 1) (word W 2) A c y x z (b .ran .sound) (fit .in-a) (fit .in-c) (fit .in-y) (fit .in-x) _ _

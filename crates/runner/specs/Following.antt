@@ -15,9 +15,9 @@ done W A B limit = followed (follow A B limit (fresh (word W 0)) (chain W .links
 
 -- Where the records leave vs in table t: on a solution vs is the closed table, and after a refusal it is not yet cleared.
 unfoldable pub stands : Outcome → Table → List Float → List Float
-stands (solution t p q) C vs = t .c
-stands (solution t p q) Y vs = t .y
-stands (solution t p q) X vs = t .x
+stands (solution t p q g) C vs = t .c
+stands (solution t p q g) Y vs = t .y
+stands (solution t p q g) X vs = t .x
 stands (stopped r k u n) t vs = vs
 stands (refusedBy r d) t vs = vs
 

@@ -1,4 +1,4 @@
-// A checked program on values: document 01, "Running", and 14 to 17; document 02, A.1.
+// A checked program on values: document 01, "Running", and 14 to 17; document 02, A.1 and A.5.
 ghost use mathlib.Core.Path.{_≡_};
 ghost use Prim.Native.Nat.{_<_};
 ghost use lib.ListN.{length, replicate};
@@ -12,12 +12,13 @@ use checker::Checked;
 use numbers::wide;
 use state::Stepped;
 
-// How a run ends: solved, with the products and quotients made; stopped at a record, by 16 or 17, with the table (1 for C, 2 Y, 3 X) and
-// the number of the open target; or refused, by 7 to 15 or by 21.
+// How a run ends: solved, with the products and quotients made and the products that vanished; stopped at a record, by 16 or 17, with the
+// table (1 for C, 2 Y, 3 X) and the number of the open target; or refused, by 7 to 15 or by 21.
 pub enum Outcome {
     Solved {
         products: u32,
         quotients: u32,
+        vanished: u32,
     },
     Stopped {
         number: u32,
@@ -124,6 +125,7 @@ fn run_records(
     if let Outcome::Solved {
         products: _,
         quotients: _,
+        vanished: _,
     } = outcome {
         return outcome;
     }
@@ -178,6 +180,7 @@ fn follow(
     Outcome::Solved {
         products: z.products,
         quotients: z.quotients,
+        vanished: z.vanished,
     }
 }
 

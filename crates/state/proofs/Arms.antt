@@ -1,12 +1,14 @@
 -- One record, kind by kind: what the code's step gives is the model's step, and the state stays sound.
 use Prim.Native.Nat.{ℕ}
+use native.Mathlib.Nat.{add-zero}
 use native.Mathlib.Numerals.{add-one}
 use mathlib.Core.Path.{_≡_, refl, sym, ap, ap₂, subst, _∙_}
+use mathlib.Core.Bool.{Bool, true, false}
 use mathlib.Core.List.{List}
 use borrow.Author.Tests.{ne-eqb}
 use lib.ListN.{length}
 use lib.Ieee.{Float}
-use Rattle.model.specs.Arith.{Answer, number, overflow, zeroDivisor, quotient}
+use Rattle.model.specs.Arith.{Answer, number, overflow, zeroDivisor, quotient, vanishes}
 use Rattle.model.specs.Formula.{Table, C, Y, X, numberOf, entry, starting, less}
 use Rattle.model.specs.Check.{Kind, opens, subtracts, divides, none, kindOf}
 use Rattle.model.specs.Run as Run
@@ -45,6 +47,10 @@ module _ (A B : List Float) (limit : Float) (c y x : List Float) (z : State) (so
   answer-gives overflow f g same still = (refl, tt)
   answer-gives zeroDivisor f g same still = (refl, tt)
 
+  one-more : (gone : Bool) (v : Float) → stateOf (subtracted z gone v) c y x ≡ Run.subtracted (stateOf z c y x) gone v
+  one-more true v = rw add-one
+  one-more false v = rw (add-one, add-zero)
+
   module _ (k : Kind) (p q : ℕ) where
     -- the steps of kinds 1 to 3, 4 to 6, and 7
     pub gives-open : (t : Table) (n : ℕ) (v : Float) (r : State)
@@ -56,12 +62,12 @@ module _ (A B : List Float) (limit : Float) (c y x : List Float) (z : State) (so
           record { named = ap numberOf (table-named t); in-c = sound .in-c; in-y = sound .in-y; in-x = sound .in-x },
         )
 
-    pub gives-subtract : (t : Table) (u v : Float) (r : Stepped) → k ≡ subtracts t → r ≡ answered (less (z .running) u v) (subtracted z)
+    pub gives-subtract : (t : Table) (u v : Float) (r : Stepped) → k ≡ subtracts t → r ≡ answered (less (z .running) u v) (subtracted z (vanishes u v))
         → u ≡ entry (stateOf z c y x .tables) C p → v ≡ entry (stateOf z c y x .tables) t q → Gives k p q r c y x
     unfolding Run.step
     gives-subtract t u v r e is left right =
         rw (e, is, ← left, ← right)
-        (answer-gives (less (z .running) u v) (subtracted z) (Run.subtracted (stateOf z c y x)) (λ w. rw add-one)
+        (answer-gives (less (z .running) u v) (subtracted z (vanishes u v)) (Run.subtracted (stateOf z c y x) (vanishes u v)) (one-more (vanishes u v))
         (λ w. record { named = sound .named; in-c = sound .in-c; in-y = sound .in-y; in-x = sound .in-x }))
 
     pub gives-divide : (v : Float) (r : Stepped) → k ≡ divides → r ≡ answered (quotient (z .running) v) (dividedBy z) → v ≡ entry (stateOf z c y x .tables) C p

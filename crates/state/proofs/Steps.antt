@@ -2,24 +2,37 @@
 use Prim.Native.Nat.{ℕ, suc, _+_, _-_, _≤_, _<_}
 use native.Mathlib.Numerals.{add-one}
 use native.Mathlib.Omega.{arith}
-use mathlib.Core.Path.{_≡_, sym, ap, subst, _∙_}
+use mathlib.Core.Path.{_≡_, refl, sym, ap, subst, _∙_}
+use mathlib.Core.Bool.{Bool, _&&_}
 use mathlib.Core.List.{List}
 use lib.ListN.{length, take, drop, set, getD, length-set, length-drop}
 use lib.Seq.{length-take-le, getD-take, take-suc-set}
 use lib.Ieee.{Float}
 use borrow.Author.Tests.{ne-eqb}
-use Rattle.model.specs.Arith.{plusZero, Answer}
-use Rattle.model.specs.Formula.{Table, C, Y, X, entry, closed}
+use Rattle.model.specs.Arith.{plusZero, Answer, number, overflow, zeroDivisor, isFinite, vanishes}
+use Rattle.model.specs.Formula.{Table, C, Y, X, entry, closed, less}
 use Rattle.model.specs.Run as Run
+use Rattle.model.proofs.Arith.{less-finite}
 use Rattle.arith.specs.declared.Operation.{Operation}
-use Rattle.arith.specs.Answer.{answerOf}
+use Rattle.arith.specs.Answer.{answerOf, hasVanished}
 use Rattle.state.specs.declared.State.{State}
+use Rattle.state.specs.declared.Stepped.the-variants.{On}
 use Rattle.state.specs.States.{tableOf, stateOf, answered, Sound, FreeIn, Free, Of}
 use Rattle.state.proofs.Tables.{drop-set, getD-last}
 
 -- the state after an operation, or its refusal
 pub answer-is : (r r′ : Operation) (a : Answer) (f : Float → State) → r ≡ r′ → answerOf r ≡ a → answered (answerOf r′) f ≡ answered a f
 answer-is r r′ a f e is = ap (λ o. answered (answerOf o) f) (sym e) ∙ ap (λ b. answered b f) is
+
+-- the state after a product, which the operation's case counts
+pub product-is : (r r′ : Operation) (acc a b : Float) (f : Bool → Float → State) → r ≡ r′ → answerOf r ≡ less acc a b
+    → hasVanished r ≡ (isFinite acc && vanishes a b) → answered (answerOf r′) (f (hasVanished r′)) ≡ answered (less acc a b) (f (vanishes a b))
+product-is r r′ acc a b f e is gone = rw (← e, is) (by (less acc a b) refl)
+  where
+    by : (o : Answer) → less acc a b ≡ o → answered o (f (hasVanished r)) ≡ answered o (f (vanishes a b))
+    by (number v) h = ap (λ g. On (f g v)) (gone ∙ rw (less-finite acc a b v h))
+    by overflow h = refl
+    by zeroDivisor h = refl
 
 -- as many entries are closed as the state counts
 pub record Counts (z : State) (c y x : List Float) : Type 0 where
@@ -63,6 +76,7 @@ module _ (z : State) (c y x : List Float) where
     x = k;
     products = z .products;
     quotients = z .quotients;
+    vanished = z .vanished;
   }
 
   pub free-in : {t : Table} → tableOf (z .table) ≡ t → Free (length c) (length y) (length x) z → FreeIn (length c) (length y) (length x) z t

@@ -1,7 +1,7 @@
 -- The state of a run with the lent tables as the model's state, and what a step may rely on. Definitions only.
 use Prim.Native.Nat.{ℕ, _+_, _-_, _≤_, _<_}
 use mathlib.Core.Path.{_≡_}
-use mathlib.Core.Bool.{cond}
+use mathlib.Core.Bool.{Bool, cond}
 use mathlib.Core.List.{List}
 use lib.Dec.{eqb}
 use lib.ListN.{length, take, drop}
@@ -27,6 +27,7 @@ stateOf z c y x = record {
   running = z .running;
   products = z .products;
   quotients = z .quotients;
+  vanished = z .vanished;
 }
 
 abbrev pub steppedOf : Stepped → List Float → List Float → List Float → Run.Stepped
@@ -35,14 +36,25 @@ steppedOf (Stop r) c y x = Run.stop r
 
 -- the state before the first record
 abbrev pub unopened : State
-unopened = record { running = plusZero; table = 1; target = 0; c = 0; y = 0; x = 0; products = 0; quotients = 0 }
+unopened = record { running = plusZero; table = 1; target = 0; c = 0; y = 0; x = 0; products = 0; quotients = 0; vanished = 0 }
 
 -- the states after an open, a subtract and a divide
 abbrev pub opened : State → ℕ → ℕ → Float → State
-opened z t k v = record { running = v; table = t; target = k; c = z .c; y = z .y; x = z .x; products = z .products; quotients = z .quotients }
+opened z t k v = record {
+  running = v;
+  table = t;
+  target = k;
+  c = z .c;
+  y = z .y;
+  x = z .x;
+  products = z .products;
+  quotients = z .quotients;
+  vanished = z .vanished;
+}
 
-abbrev pub subtracted : State → Float → State
-subtracted z v = record {
+-- gone says whether the product vanished
+abbrev pub subtracted : State → Bool → Float → State
+subtracted z gone v = record {
   running = v;
   table = z .table;
   target = z .target;
@@ -51,6 +63,7 @@ subtracted z v = record {
   x = z .x;
   products = z .products + 1;
   quotients = z .quotients;
+  vanished = cond gone (z .vanished + 1) (z .vanished);
 }
 
 abbrev pub dividedBy : State → Float → State
@@ -63,6 +76,7 @@ dividedBy z v = record {
   x = z .x;
   products = z .products;
   quotients = z .quotients + 1;
+  vanished = z .vanished;
 }
 
 -- an operation's answer as a step
@@ -112,5 +126,6 @@ Allowed la lc ly lx z none p q = Unit {0}
 pub record Ready (la lb lc ly lx : ℕ) (z : State) (k : Kind) (p q : ℕ) : Type 0 where
   pub sound : Sound lc ly lx z
   pub few : z .products + z .quotients < 100000000
+  pub gone : z .vanished ≤ z .products
   pub rows : lb ≡ ly
   pub allowed : Allowed la lc ly lx z k p q

@@ -1,10 +1,10 @@
-// The state of a run, and one record on it: document 01, "Running"; document 02, A.1.
+// The state of a run, and one record on it: document 01, "Running"; document 02, A.1 and A.5.
 ghost use mathlib.Core.Path.{_≡_};
 ghost use mathlib.Core.Bool.{cond};
 ghost use Prim.Native.Nat.{_-_, _≤_, _<_};
 ghost use lib.Dec.{eqb};
 ghost use lib.ListN.{length, getD};
-ghost use Rattle.model.specs.Arith.{plusZero, clean, quotient};
+ghost use Rattle.model.specs.Arith.{plusZero, clean, quotient, vanishes};
 ghost use Rattle.model.specs.Formula.{less};
 ghost use Rattle.model.specs.Check.{kindOf};
 ghost use Rattle.model.specs.Run as Run;
@@ -12,7 +12,8 @@ ghost use Rattle.state.specs.States.{unopened, Sound, SoundStep, Free, R
 use arith::Operation;
 use numbers::wide;
 
-// The running number, the table and number of its target, how many entries of C, Y and X are closed, and the products and quotients made.
+// The running number, the table and number of its target, how many entries of C, Y and X are closed, the products and quotients made, and
+// how many of the products vanished.
 pub struct State {
     pub running: f64,
     pub table: u32,
@@ -22,6 +23,7 @@ pub struct State {
     pub x: usize,
     pub products: u32,
     pub quotients: u32,
+    pub vanished: u32,
 }
 
 // What a record leads to: the state after it, or the number of its refusal.
@@ -41,15 +43,21 @@ impl State {
         self
     }
 
-    // The running number less a product.
+    // The running number less a product, which is counted apart where it vanishes.
     fn subtract(mut self, a: f64, b: f64) -> Stepped
-        requires { ⌜ self .products < 100000000 ⌝ }
-        ensures { λ r. ⌜ r ≡ answered (less (self .running) a b) (subtracted self) ⌝ }
+        requires { ⌜ (self .products < 100000000) × (self .vanished ≤ self .products) ⌝ }
+        ensures { λ r. ⌜ r ≡ answered (less (self .running) a b) (subtracted self (vanishes a b)) ⌝ }
     {
         match arith::less(self.running, a, b) {
             Operation::Number(value) => {
                 self.running = value;
                 self.products += 1;
+                Stepped::On(self)
+            }
+            Operation::Vanished(value) => {
+                self.running = value;
+                self.products += 1;
+                self.vanished += 1;
                 Stepped::On(self)
             }
             Operation::Overflow => Stepped::Stop(16),
@@ -63,7 +71,7 @@ impl State {
         ensures { λ r. ⌜ r ≡ answered (quotient (self .running) by) (dividedBy self) ⌝ }
     {
         match arith::quotient(self.running, by) {
-            Operation::Number(value) => {
+            Operation::Number(value) | Operation::Vanished(value) => {
                 self.running = value;
                 self.quotients += 1;
                 Stepped::On(self)
@@ -175,5 +183,6 @@ pub fn fresh() -> State
         x: 0,
         products: 0,
         quotients: 0,
+        vanished: 0,
     }
 }

@@ -1,13 +1,14 @@
 //! The run of a program: 7 to 13, 14, 15, 21, then its records, 16 and 17.
 
 use super::check::check;
-use super::dense::{difference, is_small, product, quotient, read};
+use super::dense::{difference, is_small, product, quotient, read, vanishes};
 
 #[derive(Clone, Copy, Debug, PartialEq, Eq)]
 pub enum Outcome {
     Solved {
         products: u64,
         quotients: u64,
+        vanished: u64,
     },
     /// 16 or 17, the record, and the table (1 for C, 2 for Y, 3 for X) and number of the target.
     Stopped {
@@ -34,11 +35,11 @@ struct Open {
     running: f64,
 }
 
-/// The record that refused, or the counts.
-type Ran = Result<(u64, u64), (u32, u64, u64, u64)>;
+/// The record that refused, or the counts: products, quotients and products that vanished.
+type Ran = Result<[u64; 3], (u32, u64, u64, u64)>;
 
 fn records(words: &[u32], a: &[f64], b: &[f64], limit: f64, c: &mut [f64], y: &mut [f64], x: &mut [f64]) -> Ran {
-    let (mut products, mut quotients) = (0, 0);
+    let [mut products, mut quotients, mut vanished] = [0; 3];
     let mut open = Open::default();
     let mut at = words[3] as usize;
     while at != 0 {
@@ -50,9 +51,10 @@ fn records(words: &[u32], a: &[f64], b: &[f64], limit: f64, c: &mut [f64], y: &m
             2 => open = Open { table: 2, target: p, running: read(b[p - 1]) },
             3 => open = Open { table: 3, target: p, running: y[p - 1] },
             4..=6 => {
-                let factor = [&*c, &*y, &*x][kind as usize - 4][q - 1];
-                open.running = product(c[p - 1], factor).and_then(|v| difference(open.running, v)).map_err(stopped)?;
+                let (left, right) = (c[p - 1], [&*c, &*y, &*x][kind as usize - 4][q - 1]);
+                open.running = product(left, right).and_then(|v| difference(open.running, v)).map_err(stopped)?;
                 products += 1;
+                vanished += u64::from(vanishes(left, right));
             }
             7 => {
                 open.running = quotient(open.running, c[p - 1]).map_err(stopped)?;
@@ -67,7 +69,7 @@ fn records(words: &[u32], a: &[f64], b: &[f64], limit: f64, c: &mut [f64], y: &m
         }
         at = next as usize;
     }
-    Ok((products, quotients))
+    Ok([products, quotients, vanished])
 }
 
 pub fn run(words: &[u32], a: &[f64], b: &[f64], limit: f64, c: &mut [f64], y: &mut [f64], x: &mut [f64]) -> Outcome {
@@ -85,7 +87,7 @@ pub fn run(words: &[u32], a: &[f64], b: &[f64], limit: f64, c: &mut [f64], y: &m
         return Outcome::Refused { number: 21, detail: 0 };
     }
     match records(words, a, b, limit, c, y, x) {
-        Ok((products, quotients)) => Outcome::Solved { products, quotients },
+        Ok([products, quotients, vanished]) => Outcome::Solved { products, quotients, vanished },
         Err((number, record, table, target)) => {
             c.fill(0.0);
             y.fill(0.0);

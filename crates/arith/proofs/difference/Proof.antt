@@ -19,11 +19,13 @@ returns : tie.Need-returns
 unfolding difference sub
 returns c =
     let start = c .before .before in
-    let b = start .args .b in
-    c .answer .ensures
-    ∙ settles _ _
-    (ap (add binary64 (start .args .a)) (c .before .read .ensures)
-    ∙ add-clean binary64 (start .args .a) (neg b) (passes _ (start .good .0 .1)) (neg-fits binary64 b (passes _ (start .good .1 .0 .1))))
+    let b = start .args .b in (
+      c .answer .ensures .0
+          ∙ settles _ _
+          (ap (add binary64 (start .args .a)) (c .before .read .ensures)
+          ∙ add-clean binary64 (start .args .a) (neg b) (passes _ (start .good .0 .1)) (neg-fits binary64 b (passes _ (start .good .1 .0 .1)))),
+      c .answer .ensures .1,
+    )
 
 pub difference-spec : {M : Type 1} → statement M
 difference-spec = tie.close (tie.spec read-requires answer-requires returns)

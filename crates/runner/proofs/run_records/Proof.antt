@@ -29,12 +29,12 @@ cleared c = c .before .before .before .before .before .before .before .before .b
 
 -- the tag of a solution, and of the others
 solves-told : (r : Outcome) → tagOf the-type r ≡ 0 → SolvedReply (replyOf r)
-solves-told (Solved p q) e = tt
+solves-told (Solved p q g) e = tt
 solves-told (Stopped n k t m) e = omega arith
 solves-told (Refused n d) e = omega arith
 
 solves-not : (r : Outcome) → (tagOf the-type r ≡ 1) ⊎ (tagOf the-type r ≡ 2) → SolvedReply (replyOf r) → ⊥
-solves-not (Solved p q) e is = ⊎-elim (λ one. omega arith) (λ two. omega arith) e
+solves-not (Solved p q g) e is = ⊎-elim (λ one. omega arith) (λ two. omega arith) e
 solves-not (Stopped n k t m) e is = is
 solves-not (Refused n d) e is = is
 
