@@ -106,8 +106,7 @@ static void say_solution(const double *x, uint32_t order, const uint64_t out[4])
     }
     printf("\n");
     if (out[2] != 0)
-        printf("  products that vanished: %" PRIu64 "; their factors are not zero, so a 0 in the solution may be none: scale the equations\n",
-               out[2]);
+        printf("  products that vanished: %" PRIu64 "; a 0 in the solution may stand for a small number: scale the equations\n", out[2]);
 }
 
 /* Where a run ended: the entry whose formula was being worked out. A slot's place is found by the label that has it. */

@@ -1,4 +1,5 @@
--- The record machine works formulas out: the run of the records of a row of formulas ends as the row does, and counts its products and quotients.
+-- The record machine works formulas out: the run of the records of a row of formulas ends as the row does, and counts its products and
+-- quotients and the products that vanish.
 use Prim.Native.Nat.{ℕ, zero, suc, _+_}
 use native.Mathlib.Omega.{arith}
 use mathlib.Core.Path.{_≡_, refl, ap, ap₂, _∙_}
@@ -169,7 +170,8 @@ module _ (A B : List Float) (limit : Float) where
       ∙ resumed-worked p q (z .vanished) (z .tables) f fs _ (λ v. run-formulas fs (λ g m. started g (List·Memᴰ·tail m)) _ p q
       (omega (arith, productsOf-cons f fs)) (omega (arith, quotientsOf-cons f fs)))
 
--- The run of the records of formulas, from any state and any index on, ends as the formulas worked out do, and has counted their products and quotients.
+-- The run of the records of formulas, from any state and any index on, ends as the formulas worked out do, and has counted their products and
+-- quotients and the products that vanish.
 pub machine : (A B : List Float) (limit : Float) (fs : List Formula) → Each Started fs → (z : State) (k : ℕ)
     → seen (followed (follow A B limit z (linksFrom k (joined (map recordsOf fs)))))
     ≡ shown (z .products + productsOf fs) (z .quotients + quotientsOf fs) (worked A B limit (z .vanished) (z .tables) fs)

@@ -13,6 +13,7 @@ use Rattle.model.specs.Formula.{Table, C, Y, X, Tables, entry, closed, l
 use Rattle.model.specs.Check.{Open, idle, busy, Progress, Kind, opens, subtracts, divides, closes, closesPivot, none}
 use Rattle.model.specs.Check.{inOrder, inTurn, counted, onward}
 use Rattle.model.specs.Run.{State, Stepped, going, stop, closing, subtracted, dividedBy, settledStep, step}
+use Rattle.model.proofs.Sums.{at-most-one}
 use Rattle.model.proofs.Passing.{both}
 
 -- what is closed in a state, where o is open
@@ -46,10 +47,6 @@ pub record AfterRecord (N s : ℕ) (o : Open) (z : State) (k : Kind) (z′ : Sta
 abbrev pub AfterStep : ℕ → ℕ → Open → State → Kind → Stepped → Type 0
 AfterStep N s o z k (going z′) = AfterRecord N s o z k z′
 AfterStep N s o z k (stop r) = Unit {0}
-
-at-most-one : (b : Bool) → cond b 1 0 ≤ 1
-at-most-one true = omega arith
-at-most-one false = omega arith
 
 module _ (A B : List Float) (limit : Float) (N n s : ℕ) (z : State) (p q : ℕ) where
   answered-after : (o : Open) (k : Kind) (a : Answer) (f : Float → State) → ((v : Float) → AfterRecord N s o z k (f v)) → AfterStep N s o z k (settledStep a f)
