@@ -20,7 +20,7 @@ use Rattle.model.specs.Run.{State, Stepped, going, stop, opened, closing
 use Rattle.model.specs.Agreement.{Seen, whole, ended, seen}
 use Rattle.model.proofs.Lists.{Each, cons-each, rising-each, falling-each, append-each, joined-each, map-each}
 use Rattle.model.proofs.Links.{linksFrom}
-use Rattle.model.proofs.Tally.{productsOf, quotientsOf, productsOf-cons, quotientsOf-cons, vanishedIn-cons}
+use Rattle.model.proofs.Tally.{productsOf, quotientsOf, vanishedBy, productsOf-cons, quotientsOf-cons, vanishedIn-cons}
 
 abbrev StartedAt : Table → ℕ → ℕ → Type 0
 StartedAt C start target = Unit {0}
@@ -139,7 +139,7 @@ module _ (A B : List Float) (limit : Float) where
   -- the records of one formula work its value out
   run-formula : (f : Formula) → Started f → (z : State) (p q g : ℕ) (rs : List Record)
       → z .products + length (f .products) ≡ p → z .quotients + cond (ltb 0 (f .divisor)) 1 0 ≡ q
-      → z .vanished + vanishedIn (z .tables) (f .table) (f .products) ≡ g
+      → z .vanished + vanishedBy (z .tables) f ≡ g
       → run z (recordsOf f ++ rs) ≡ resumed f (value A B limit (z .tables) f) (λ v. run (closing (midway f (z .tables) p q g v)) rs)
   unfolding recordsOf value Started resumed
   run-formula f started z p q g rs products quotients vanished = simp append-assoc
@@ -151,7 +151,7 @@ module _ (A B : List Float) (limit : Float) where
 
   -- a row of formulas goes on after its first as a run does
   resumed-worked : (p q g : ℕ) (t : Tables) (f : Formula) (fs : List Formula) (on : Float → Seen)
-      → ((v : Float) → on v ≡ shown p q (worked A B limit (g + vanishedIn t (f .table) (f .products)) (closed t (f .table) v) fs))
+      → ((v : Float) → on v ≡ shown p q (worked A B limit (g + vanishedBy t f) (closed t (f .table) v) fs))
       → resumed f (value A B limit t f) on ≡ shown p q (worked A B limit g t (f ∷ fs))
   unfolding worked shown resumed
   resumed-worked p q g t f fs on same = by (value A B limit t f) refl

@@ -18,9 +18,10 @@ use Rattle.model.specs.Agreement.{Given, Accepted, packed, NeverSolved}
 use Rattle.model.proofs.Labels.{Inside, label-range, place-of-label}
 use Rattle.model.proofs.Plans.{pivot-held, missing-free}
 use Rattle.model.proofs.Picked.{picked, shrunk, shrunk-y, shrunk-x, shrunk-held, shrunk-unheld, shrunk-packed}
+use Rattle.model.proofs.Tally.{vanishedBy}
 use Rattle.model.proofs.Values.{Sound, sound-nothing, sound-c, sound-y, sound-x, Reads, reads-good, number-good, place-entered}
 use Rattle.model.proofs.Values.{place-same, forward-same, backward-same, unheld-value}
-use Rattle.model.proofs.Values.{vanishedBy, place-vanished, forward-vanished, backward-vanished, unheld-vanished}
+use Rattle.model.proofs.Values.{place-vanished, forward-vanished, backward-vanished, unheld-vanished}
 use Rattle.model.proofs.Beside.{formulaOf, denseOf, beside, Beside, done, on-both, left-out, into-y, into-x}
 
 -- dense Crout's ending, with C compressed and a refusal in C by the slot of its place

@@ -232,7 +232,9 @@ step-small A B limit z (opens C) p q = tt
 step-small A B limit z (opens Y) p q = tt
 step-small A B limit z (opens X) p q = tt
 step-small A B limit z (subtracts t) p q =
-    settled-small (less (z .running) (entry (z .tables) C p) (entry (z .tables) t q)) (subtracted z (vanishes (entry (z .tables) C p) (entry (z .tables) t q)))
+    let a = entry (z .tables) C p in
+    let b = entry (z .tables) t q in
+    settled-small (less (z .running) a b) (subtracted z (vanishes a b))
 step-small A B limit z divides p q = settled-small (quotient (z .running) (entry (z .tables) C p)) (dividedBy z)
 step-small A B limit z closes p q = tt
 step-small A B limit z closesPivot p q = test (isSmall limit (z .running))

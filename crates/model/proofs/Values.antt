@@ -27,7 +27,7 @@ use Rattle.model.proofs.Slots.{slot-range}
 use Rattle.model.proofs.Arith.{Good, nought, GoodAnswer, clean-good, difference-good, quotient-good}
 use Rattle.model.proofs.Arith.{product-nought-left, product-nought-right, quotient-nought, difference-nought, small-nought, large-nonzero}
 use Rattle.model.proofs.Arith.{vanishes-left, vanishes-right}
-use Rattle.model.proofs.Tally.{vanishedIn-cons}
+use Rattle.model.proofs.Tally.{vanishedBy, vanishedIn-cons}
 use Rattle.model.proofs.Picked.{shrunk, entry-held}
 use Rattle.model.proofs.Beside.{denseOf, reducedOf, formula-lower, formula-upper}
 
@@ -403,10 +403,6 @@ module _ {N n : ℕ} {L : Plan} {A B : List Float} {limit : Float} {t : Tables} 
     backward-same i low high = singles-same sound X i _ (λ h. refl) (falling-each _ _ N (N - i) (λ h l r. omega arith)) _ (starting-good X i)
 
 -- ---- the products that vanish, on both sides
-
--- how many of a formula's products vanish
-abbrev pub vanishedBy : Tables → Formula → ℕ
-vanishedBy t f = vanishedIn t (f .table) (f .products)
 
 module _ {N n : ℕ} {L : Plan} {t : Tables} (sound : Sound N L n t) where
   inner-vanished : (i j m : ℕ) → Inside N i j → m ≤ i → m ≤ j
