@@ -2,88 +2,28 @@
 
 use super::Answer;
 
-mod exported {
-    extern "C" {
-        pub fn crout_run(
-            words: *const u32,
-            words_len: usize,
-            a: *const f64,
-            a_len: usize,
-            b: *const f64,
-            b_len: usize,
-            c: *mut f64,
-            c_len: usize,
-            y: *mut f64,
-            y_len: usize,
-            x: *mut f64,
-            x_len: usize,
-            out: *mut u64,
-        ) -> u64;
-
-        pub fn crout_run_limit(
-            words: *const u32,
-            words_len: usize,
-            a: *const f64,
-            a_len: usize,
-            b: *const f64,
-            b_len: usize,
-            limit: f64,
-            c: *mut f64,
-            c_len: usize,
-            y: *mut f64,
-            y_len: usize,
-            x: *mut f64,
-            x_len: usize,
-            out: *mut u64,
-        ) -> u64;
-
-        pub fn crout_solve(
-            n: u32,
-            plan: *const u32,
-            plan_len: usize,
-            a: *const f64,
-            a_len: usize,
-            b: *const f64,
-            b_len: usize,
-            work: *mut u32,
-            work_len: usize,
-            words: *mut u32,
-            words_len: usize,
-            c: *mut f64,
-            c_len: usize,
-            y: *mut f64,
-            y_len: usize,
-            x: *mut f64,
-            x_len: usize,
-            out: *mut u64,
-        ) -> u64;
-
-        pub fn crout_solve_limit(
-            n: u32,
-            plan: *const u32,
-            plan_len: usize,
-            a: *const f64,
-            a_len: usize,
-            b: *const f64,
-            b_len: usize,
-            limit: f64,
-            work: *mut u32,
-            work_len: usize,
-            words: *mut u32,
-            words_len: usize,
-            c: *mut f64,
-            c_len: usize,
-            y: *mut f64,
-            y_len: usize,
-            x: *mut f64,
-            x_len: usize,
-            out: *mut u64,
-        ) -> u64;
-    }
+/// Declares exported functions by the types of what `call!` hands them: numbers, slices that they read, each as a pointer and a length,
+/// the limit, if they take one, and slices that they may write.
+macro_rules! exported {
+    ($($name:ident: [$($number:ty),*], [$($read:ty),*], [$($limit:ty)?], [$($lent:ty),*];)*) => {
+        mod exported {
+            extern "C" {
+                $(pub fn $name(
+                    $(_: $number,)* $(_: *const $read, _: usize,)* $(_: $limit,)? $(_: *mut $lent, _: usize,)* out: *mut u64,
+                ) -> u64;)*
+            }
+        }
+    };
 }
 
-/// Calls an exported function: numbers, slices that it reads, each as a pointer and a length, the limit, if it takes one, and slices
-/// that it may write.
+exported! {
+    crout_run: [], [u32, f64, f64], [], [f64, f64, f64];
+    crout_run_limit: [], [u32, f64, f64], [f64], [f64, f64, f64];
+    crout_solve: [u32], [u32, f64, f64], [], [u32, u32, f64, f64, f64];
+    crout_solve_limit: [u32], [u32, f64, f64], [f64], [u32, u32, f64, f64, f64];
+}
+
+/// Calls one of them with an array for its answer.
 macro_rules! call {
     ($name:ident, [$($number:expr),*], [$($read:expr),*], [$($limit:expr)?], [$($lent:expr),*]) => {
         Answer::of(|out| unsafe {
