@@ -22,7 +22,7 @@ extern "C" {
 /* The refusals, numbered as in documents 01 and 02. The comment is the detail; where there is none, the detail is 0. */
 enum crout_refusal_number {
     CROUT_ORDER = 1,
-    CROUT_WORK_SHORT = 2,    /* the numbers needed, n * n */
+    CROUT_WORK_SHORT = 2,    /* the numbers needed, n * n, or 4 * n * n for crout_compile_compact */
     CROUT_LABEL_RANGE = 3,   /* the label's position in the plan, from 1 */
     CROUT_LABEL_TURN = 4,    /* the label's position in the plan, from 1 */
     CROUT_PIVOT_MISSING = 5, /* the smallest m whose pivot (m, m) is missing */
@@ -63,7 +63,7 @@ static inline const char *crout_refusal_text(uint32_t number) {
     case CROUT_ORDER:
         return "the order is outside 1 to 600: give an order in that range";
     case CROUT_WORK_SHORT:
-        return "the work slice is too short: lend as many numbers as the detail says, the square of the order";
+        return "the work slice is too short: lend as many numbers as the detail says";
     case CROUT_LABEL_RANGE:
         return "a label is not in the table of this order: correct the one at the position that the detail gives";
     case CROUT_LABEL_TURN:
@@ -128,6 +128,12 @@ uint32_t crout_place(uint32_t n, uint32_t label);
    out: slots, products, records. The program is the first 4 * records words. Refusals 1 to 6. */
 uint64_t crout_compile(uint32_t n, const uint32_t *plan, size_t plan_len, uint32_t *work, size_t work_len,
                        uint32_t *words, size_t words_len, uint64_t out[3]);
+
+/* Compiles a plan to a program with fewer slots: a slot is used again once its value has been read for the last time. A run gives the
+   same y and x, c holds what each slot took last, and a refusal's number in C is a slot's. work is at least 4 * n * n numbers: the first
+   n * n end as crout_compile leaves them, the others as 0. words and out as crout_compile's. Refusals 1 to 6. */
+uint64_t crout_compile_compact(uint32_t n, const uint32_t *plan, size_t plan_len, uint32_t *work, size_t work_len,
+                               uint32_t *words, size_t words_len, uint64_t out[3]);
 
 /* Checks a program file's bytes: 18, then 7 to 13. */
 uint64_t crout_check(const uint8_t *file, size_t file_len);

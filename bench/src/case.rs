@@ -4,7 +4,7 @@ use crout_tests::networks::{self, Values};
 use crout_tests::random::Random;
 use crout_tests::reading::labels::label;
 
-use crate::plain::compile::compile;
+use crate::plain::{compact, compile::compile};
 
 /// A plan, its compiled program and values that have a solution.
 pub struct Case {
@@ -32,6 +32,15 @@ impl Case {
         }
         let b = Values::Moderate.row(n as usize, random);
         Self { name: name.into(), n, plan, slots: slots as usize, products, words, a, b }
+    }
+
+    /// The same with the compact program.
+    pub fn compact(&self) -> Self {
+        let Self { name, n, plan, products, a, b, .. } = self;
+        let (mut work, mut words) = (vec![0; 4 * (n * n) as usize], vec![0; self.words.len()]);
+        let [slots, ..] = compact::compile(*n, plan, &mut work, &mut words).expect("an accepted plan");
+        let (name, plan, slots) = (name.clone(), plan.clone(), slots as usize);
+        Self { name, n: *n, plan, slots, products: *products, words, a: a.clone(), b: b.clone() }
     }
 
     pub fn records(&self) -> usize {

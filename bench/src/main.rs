@@ -1,6 +1,7 @@
 //! The exported functions beside plain Rust: a line for each case with the best times in microseconds, their ratio, and the
 //! nanoseconds for each record (and, for a run, each product), ours first. Beside a run stand dense Crout and, where it is
-//! installed, KLU. The callers take turns, and what they may write is cleared before each timing.
+//! installed, KLU, and beside the compact program ours of the plain one. The callers take turns, and what they may write is cleared
+//! before each timing.
 //!
 //! The last table has the time of a run against the order. `--csv FILE` and `--plot FILE` write it as CSV and as a picture; with
 //! `growth` nothing else is measured.
@@ -71,12 +72,19 @@ fn beside() {
     let cases = [&small, &large, &grid, &random, &full_100, &full_300];
     table::head("compile", &[]);
     cases.into_iter().for_each(compile::compile);
+    table::head("compile compact", &compile::COMPACT_COLUMNS);
+    cases.into_iter().for_each(compile::compact);
     table::head("check", &[]);
     cases.into_iter().for_each(check::check);
     table::head("file round trip", &[]);
     cases.into_iter().for_each(file::round_trip);
     table::head("run", &run::COLUMNS);
     cases.into_iter().for_each(run::run);
+    table::head("run compact", &run::COMPACT_COLUMNS);
+    cases.into_iter().for_each(run::compact);
+    println!();
+    table::line("slots", ["plain", "compact", "ratio"].map(String::from));
+    cases.into_iter().for_each(compile::slots);
 }
 
 fn refused(why: &str) -> ExitCode {

@@ -14,6 +14,9 @@ use crate::timing::{Caller, caller, race};
 /// The columns beside those of each group.
 pub const COLUMNS: [&str; 6] = ["ns/product", "(plain)", "dense us", "times ours", "KLU us", "times ours"];
 
+/// Those for the compact program: ours of the plain program, and of the compact one over it.
+pub const COMPACT_COLUMNS: [&str; 2] = ["run us", "ratio"];
+
 /// The slices that a run may write.
 struct Tables {
     c: Vec<f64>,
@@ -64,15 +67,17 @@ impl<'a> Run<'a> {
         run
     }
 
+    /// The bits of C, Y and X after a call.
+    fn solution(&self, caller: Caller) -> [Vec<u64>; 3] {
+        caller();
+        let to = self.tables.borrow();
+        [bits(&to.c), bits(&to.y), bits(&to.x)]
+    }
+
     /// Each caller once, and that all have the solution: to the bit, but for KLU, which has another order.
     fn compare(&self) {
-        let solution = |caller: Caller| {
-            caller();
-            let to = self.tables.borrow();
-            [bits(&to.c), bits(&to.y), bits(&to.x)]
-        };
-        let ours = solution(self.ours());
-        assert!(ours == solution(self.plain()), "the plain runner's solution differs");
+        let ours = self.solution(self.ours());
+        assert!(ours == self.solution(self.plain()), "the plain runner's solution differs");
         self.dense()();
         assert!(ours[2] == bits(&self.square.borrow().x), "dense Crout's solution differs");
         if let Some(klu) = &self.klu {
@@ -133,6 +138,16 @@ pub fn run(case: &Case) {
     table::line(&case.name, cells);
 }
 
+pub fn compact(case: &Case) {
+    let compact = case.compact();
+    let (run, first) = (Run::new(&compact), Run::new(case));
+    assert!(run.solution(run.ours())[1..] == first.solution(first.ours())[1..], "the compact program's solution differs");
+    let [ours, plain, first] = race([run.ours(), run.plain(), first.ours()]);
+    let mut cells = table::cells(case, ours, plain);
+    cells.extend([table::micros(first), table::ratio(ours, first)]);
+    table::line(&case.name, cells);
+}
+
 #[cfg(test)]
 mod tests {
     use crout_tests::networks;
@@ -144,7 +159,9 @@ mod tests {
     fn all_callers_agree() {
         for n in [1, 2, 7, 8, 9, 36] {
             for plan in [networks::three_diagonal(n), networks::grid(n, 6), networks::full(n)] {
-                Run::new(&Case::new("", n, plan));
+                let case = Case::new("", n, plan);
+                Run::new(&case);
+                Run::new(&case.compact());
             }
         }
     }

@@ -49,14 +49,18 @@ static const uint32_t p8[12] = {1, 2, 4, 8, 10, 12, 15, 21, 28, 30, 33, 36};
 static uint32_t work[36];
 static uint32_t words[400];
 
-/* What the compiler returns, with the slices full of sevens before it. */
-static uint64_t compiled(uint32_t n, const uint32_t *plan, size_t plan_len, size_t work_len, size_t words_len, uint64_t out[3]) {
+static void sevens(uint64_t out[3]) {
     size_t k;
     for (k = 0; k < COUNT(work); k++)
         work[k] = 7;
     for (k = 0; k < COUNT(words); k++)
         words[k] = 7;
     out[0] = out[1] = out[2] = 7;
+}
+
+/* What the compiler returns, with the slices full of sevens before it. */
+static uint64_t compiled(uint32_t n, const uint32_t *plan, size_t plan_len, size_t work_len, size_t words_len, uint64_t out[3]) {
+    sevens(out);
     return crout_compile(n, plan, plan_len, work, work_len, words, words_len, out);
 }
 
@@ -95,6 +99,24 @@ static void compile(void) {
     expect(compiled(6, p8, COUNT(p8), 35, COUNT(words), out) == refusal(2, 36), "a work slice of 35");
     expect(compiled(1, p2, 1, 1, COUNT(words), out) == 0 && same_numbers(out, 1, 0, 8), "order 1");
     expect(memcmp(words, listing, sizeof listing) == 0 && words[32] == 7, "the program of order 1");
+}
+
+/* The plan 1 4 of order 2, whose two pivots share a slot. */
+static uint64_t compacted(size_t work_len, size_t words_len, uint64_t out[3]) {
+    const uint32_t plan[] = {1, 4};
+    sevens(out);
+    return crout_compile_compact(2, plan, 2, work, work_len, words, words_len, out);
+}
+
+static void compact(void) {
+    const uint32_t work_after[17] = {1, 0, 0, 2, 0, 0, 0, 0, 0, 0, 0, 0, 0, 0, 0, 0, 7};
+    uint64_t out[3];
+    expect(compacted(15, 60, out) == refusal(2, 16) && same_numbers(out, 0, 0, 0) && work[0] == 7, "a compact work slice of 15");
+    expect(compacted(17, 59, out) == refusal(6, 15) && same_numbers(out, 0, 0, 0) && words[0] == 7, "a compact word slice of 59");
+    expect(memcmp(work, work_after, sizeof work_after) == 0, "the compact work numbers after 6");
+    expect(compacted(17, 61, out) == 0 && same_numbers(out, 1, 0, 15), "two pivots in one slot");
+    expect(memcmp(work, work_after, sizeof work_after) == 0, "the compact work numbers");
+    expect(words[2] == 1 && words[59] == 0 && words[60] == 7, "the compact program");
 }
 
 #endif
@@ -255,6 +277,17 @@ static void vanished(void) {
     expect(ran(2, weaker, small, 4, out) == 0 && same_numbers(out, 3, 3, 0), "release 1's calls don't tell");
 }
 
+static void ran_compact(void) {
+    const double a[] = {2, 4}, singular[] = {2, 0}, b[] = {2, 12}, y_and_x[] = {1, 3}, zeros[] = {0, 0};
+    uint64_t compiler[3], out[4];
+    expect(compacted(16, 60, compiler) == 0, "two pivots in one slot");
+    dirty();
+    expect(crout_run_limit(words, 60, a, 2, b, 2, 0, c, 1, y, 2, x, 2, out) == 0 && same_numbers(out, 0, 2, 0), "a compact run");
+    expect(c[0] == 4 && c[1] == 7 && same_values(y, y_and_x, 2) && same_values(x, y_and_x, 2), "the values of a compact run");
+    expect(crout_run_limit(words, 60, singular, 2, b, 2, 0, c, 1, y, 2, x, 2, out) == refusal(17, 7), "17 of a compact run");
+    expect(same_numbers(out, 1, 1, 0) && same_values(c, zeros, 1) && same_values(x, zeros, 2), "the slot that 17 names");
+}
+
 static void document_002(void) {
     const double a[12] = {7, 2, -3, -3, -1, 8, -1, 1, 5, -2, 4, 6}, b[6] = {-11, 38, 0, 13, 11, -22};
     const double published[6] = {-1, 5, 0, 2, 4, -3};
@@ -273,6 +306,7 @@ int main(void) {
     labels();
 #if GROUPS >= 2
     compile();
+    compact();
 #endif
 #if GROUPS >= 3
     written();
@@ -283,6 +317,7 @@ int main(void) {
     run();
     limits();
     vanished();
+    ran_compact();
     document_002();
 #endif
     return 0;

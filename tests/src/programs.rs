@@ -1,7 +1,7 @@
 //! Programs beside the compiler's own: random ones that pass the check, chains led round spare records, and damage.
 
 use crate::random::Random;
-use crate::reading::plan::compile;
+use crate::reading::{compact, plan::compile};
 
 /// The program of a plan by the reading's compiler, if no pivot is missing.
 pub fn compiled(n: u32, plan: &[u32]) -> Option<Vec<u32>> {
@@ -12,6 +12,29 @@ pub fn compiled(n: u32, plan: &[u32]) -> Option<Vec<u32>> {
     let mut words = vec![0; 4 * records as usize];
     compile(n, plan, &mut work, &mut words).expect("the plan is accepted");
     Some(words)
+}
+
+/// The same by the reading's compact compiler.
+pub fn compacted(n: u32, plan: &[u32]) -> Option<Vec<u32>> {
+    let mut words = compiled(n, plan)?;
+    compact::rename(&mut words);
+    Some(words)
+}
+
+/// The program of one compiler or the other.
+pub fn of_either(n: u32, plan: &[u32], random: &mut Random) -> Option<Vec<u32>> {
+    if random.chance(0.5) { compiled(n, plan) } else { compacted(n, plan) }
+}
+
+/// The program with this record 0, of which first is left out, and these records, of which next is: each leads to the one after it.
+pub fn in_order(head: [u32; 3], records: impl IntoIterator<Item = [u32; 3]>) -> Vec<u32> {
+    let mut words = head.to_vec();
+    for (index, record) in (1..).zip(records) {
+        words.push(index);
+        words.extend(record);
+    }
+    words.push(0);
+    words
 }
 
 /// The program with spare records full of junk put between, and its chain led round them.
@@ -36,10 +59,11 @@ fn junk(random: &mut Random) -> u32 {
     if random.chance(0.5) { random.below(12) as u32 } else { random.next() as u32 }
 }
 
-/// How far a random program is: the closed entries of C, Y and X.
+/// How far a random program is: the slot opened last, the highest slot closed, and the closed entries of Y and X.
 struct Closed {
     n: u32,
     slots: u32,
+    slot: u32,
     c: u32,
     y: u32,
     x: u32,
@@ -51,15 +75,23 @@ fn up_to(bound: u32, random: &mut Random) -> u32 {
 }
 
 impl Closed {
-    /// The tables that may open an entry now: 1 for C, 2 for Y, 3 for X.
+    fn finished(&self) -> bool {
+        self.c == self.slots && self.y == self.n && self.x == self.n
+    }
+
+    /// The tables that may open an entry now: 1 for C, 2 for Y, 3 for X. Slots may open again to the end.
     fn open_to(&self) -> Vec<u32> {
-        let allowed = [self.c < self.slots, self.y < self.n, self.x < self.n && self.y == self.n];
+        let allowed = [true, self.y < self.n, self.x < self.n && self.y == self.n];
         (1..).zip(allowed).filter(|&(_, allowed)| allowed).map(|(table, _)| table).collect()
     }
 
-    fn opening(&self, table: u32, plan: u32, random: &mut Random) -> [u32; 3] {
+    fn opening(&mut self, table: u32, plan: u32, random: &mut Random) -> [u32; 3] {
         match table {
-            1 => [1, random.below(plan as usize + 1) as u32, self.c + 1],
+            1 => {
+                let again = self.c == self.slots || self.c > 0 && random.chance(0.3);
+                self.slot = if again { up_to(self.c, random) } else { self.c + 1 };
+                [1, random.below(plan as usize + 1) as u32, self.slot]
+            }
             2 => [2, self.y + 1, 0],
             _ => [3, self.n - self.x, 0],
         }
@@ -79,32 +111,32 @@ impl Closed {
     }
 
     fn close(&mut self, table: u32, random: &mut Random) -> [u32; 3] {
-        *[&mut self.c, &mut self.y, &mut self.x][table as usize - 1] += 1;
+        match table {
+            1 => self.c = self.c.max(self.slot),
+            2 => self.y += 1,
+            _ => self.x += 1,
+        }
         [if table == 1 && random.chance(0.3) { 9 } else { 8 }, 0, 0]
     }
 }
 
-/// A random program that passes the check. Its formulas belong to no plan: C and Y open in any mixture, and each formula
-/// subtracts and divides as it likes.
+/// A random program that passes the check. Its formulas belong to no plan: C and Y open in any mixture, a slot again and again, and
+/// each formula subtracts and divides as it likes.
 pub fn accepted(random: &mut Random) -> Vec<u32> {
     let n = up_to(6, random);
-    let slots = n + random.below((n * n - n) as usize + 1) as u32;
+    let slots = up_to(n * n, random);
     let plan = random.below((n * n) as usize + 1) as u32;
-    let mut closed = Closed { n, slots, c: 0, y: 0, x: 0 };
-    let mut records = vec![[n, plan, slots]];
-    loop {
+    let mut closed = Closed { n, slots, slot: 0, c: 0, y: 0, x: 0 };
+    let mut records = vec![];
+    // a few slots may open again when all else is done
+    while !closed.finished() || random.chance(0.3) {
         let tables = closed.open_to();
-        if tables.is_empty() {
-            break;
-        }
         let table = tables[random.below(tables.len())];
         records.push(closed.opening(table, plan, random));
         records.extend((0..random.below(4)).filter_map(|_| closed.operation(table, random)).collect::<Vec<_>>());
         records.push(closed.close(table, random));
     }
-    let last = records.len() - 1;
-    let next = |index| if index == last { 0 } else { index as u32 + 1 };
-    records.into_iter().enumerate().flat_map(|(index, [kind, p, q])| [kind, p, q, next(index)]).collect()
+    in_order([n, plan, slots], records)
 }
 
 fn other_kind(random: &mut Random) -> u32 {

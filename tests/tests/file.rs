@@ -116,11 +116,12 @@ impl Pair {
     }
 }
 
-/// Every program of the compiler's random plans of a seed, as it is and damaged.
+/// A program of one compiler or the other for each of the random plans of a seed, as it is and damaged.
 fn damaged_programs(seed: u64) -> Tally {
     let random = &mut Random(seed);
     let mut tally = Tally::default();
-    for words in networks::plans(seed, 2500).filter_map(|(n, plan)| programs::compiled(n, &plan)) {
+    for (n, plan) in networks::plans(seed, 2500) {
+        let Some(words) = programs::of_either(n, &plan, random) else { continue };
         let mut pair = Pair::new(words, random);
         assert_eq!(verdict(&pair.bytes[..pair.len()]), None);
         // a short program is damaged more often than a long one, which takes longer to check
@@ -147,7 +148,7 @@ fn chains_led_round_spare_records() {
     let random = &mut Random(20);
     let mut tally = Tally::default();
     for (n, plan) in networks::plans(20, 400) {
-        let Some(words) = programs::compiled(n, &plan) else { continue };
+        let Some(words) = programs::of_either(n, &plan, random) else { continue };
         let mut pair = Pair::new(programs::spaced(&words, random), random);
         assert_eq!(verdict(&pair.bytes[..pair.len()]), None);
         (0..100).for_each(|_| tally.add(pair.damaged(random)));
@@ -200,7 +201,7 @@ fn random_programs_that_pass_and_their_damage() {
 fn likely_words(random: &mut Random) -> Vec<u32> {
     let n = 1 + random.below(3) as u32;
     let records = 1 + random.below(12);
-    let mut words = vec![n, random.below(1 + (n * n) as usize) as u32, n + random.below(2) as u32, 1];
+    let mut words = vec![n, random.below(1 + (n * n) as usize) as u32, random.below(2 + n as usize) as u32, 1];
     for at in 1..records {
         let next = if random.chance(0.9) { at + 1 } else { random.below(records + 1) };
         words.extend([random.below(11), random.below(3), random.below(3), next % records].map(|word| word as u32));
@@ -279,6 +280,45 @@ fn each_refusal_once() {
     assert_eq!(smallest_with(17, 2), refused(12, 4), "C(2) isn't closed");
     assert_eq!(smallest_with(27, 0), refused(13, 0), "X(1) is open at the end");
     assert_eq!(smallest_with(23, 0), refused(13, 0), "X(1) isn't closed at the end");
+}
+
+/// The file of a program of order 2 with these slots, which opens and closes them in this order before all else.
+fn opening(slots: u32, order: &[u32]) -> Vec<u8> {
+    let opened = order.iter().flat_map(|&slot| [[1, 0, slot], [8, 0, 0]]);
+    let others = [[2, 1, 0], [2, 2, 0], [3, 2, 0], [3, 1, 0]].into_iter().flat_map(|record| [record, [8, 0, 0]]);
+    bytes_of(&programs::in_order([2, 0, slots], opened.chain(others)))
+}
+
+#[test]
+fn slots_used_again() {
+    let check = |slots: u32, order: &[u32]| check(&opening(slots, order));
+    assert_eq!(check(1, &[1]), 0, "fewer slots than the order");
+    assert_eq!(check(1, &[1, 1, 1]), 0, "the only slot again");
+    assert_eq!(check(4, &[1, 2, 1, 3, 2, 4, 4, 1]), 0, "in any order up to one above the highest");
+    assert_eq!(check(0, &[]), refused(8, 0), "no slots");
+    assert_eq!(check(5, &[1, 2, 3, 4, 5]), refused(8, 0), "more slots than places");
+    assert_eq!(check(4, &[2]), refused(12, 1), "C(2) opens first");
+    assert_eq!(check(4, &[1, 2, 1, 4]), refused(12, 7), "two above the highest closed");
+    assert_eq!(check(2, &[1, 2, 1, 3]), refused(12, 7), "past the slots");
+    assert_eq!(check(2, &[1, 0]), refused(12, 3), "no slot");
+    assert_eq!(check(3, &[1, 2, 1]), refused(13, 0), "C(3) is left out");
+    assert_eq!(check(1, &[]), refused(13, 0), "all are left out");
+}
+
+/// Every order of one to five openings. Those with no slot out of turn are the ways to part them into groups, of which there are
+/// 5, 26, 32 and 11 with 1 to 4 groups (Stirling's numbers of the second kind); with fewer groups than slots one is left out.
+#[test]
+fn every_order_of_slots() {
+    let mut tally = Tally::default();
+    for slots in 0..=5 {
+        for number in 0..6u32.pow(5) {
+            let order: Vec<u32> = (0..5).map(|digit| number / 6u32.pow(digit) % 6).collect();
+            let len = order.iter().rposition(|&slot| slot != 0).map_or(1, |last| last + 1);
+            tally.add(verdict(&opening(slots, &order[..len])));
+        }
+    }
+    assert_eq!(tally.fine, 5 + 26 + 32 + 11);
+    assert_eq!(tally.hits[13], 5 + (5 + 26) + (5 + 26 + 32));
 }
 
 #[test]

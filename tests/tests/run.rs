@@ -568,7 +568,7 @@ fn damaged_programs() {
     let mut endings = [0; 22];
     for round in 0..60_000 {
         let n = 1 + random.below(6) as u32;
-        let compiled = programs::compiled(n, &networks::any(n, random));
+        let compiled = programs::of_either(n, &networks::any(n, random), random);
         let mut words = compiled.unwrap_or_else(|| programs::accepted(random));
         if round % 3 == 0 {
             words = programs::spaced(&words, random);
@@ -598,6 +598,24 @@ fn programs_that_no_compiler_wrote() {
     for ending in [0, 16, 17, 21] {
         assert!(endings[ending] > 2000, "{endings:?}");
     }
+}
+
+/// C(1) is 3 and is opened again with 10, less its square: until it is closed again it is read as 3, and afterwards as 1.
+#[test]
+fn a_slot_that_is_open_again_is_read() {
+    let random = &mut Random(61);
+    let opened = [[1, 1, 1], [8, 0, 0], [1, 2, 1], [4, 1, 1], [8, 0, 0]];
+    let y = [[2, 1, 0], [7, 1, 0], [8, 0, 0], [2, 2, 0], [5, 1, 1], [8, 0, 0]];
+    let x = [[3, 2, 0], [8, 0, 0], [3, 1, 0], [6, 1, 2], [8, 0, 0]];
+    let words = programs::in_order([2, 2, 1], opened.into_iter().chain(y).chain(x));
+    let (a, b) = ([3.0, 10.0], [4.0, 12.0]);
+    assert_eq!(compare_run(&words, &a, &b, 0.0, [1, 2, 2], random), Answer::fine([3, 1, 0, 0]));
+    let mut tables = Tables::new([1, 2, 2], random);
+    tables.run(&words, &a, &b, 0.0);
+    assert_eq!((tables.c.entries(), tables.y.entries(), tables.x.entries()), (&[1.0][..], &[4.0, 8.0][..], &[-4.0, 8.0][..]));
+    // refused while it is open again: its number is the slot's
+    let huge = compare_run(&words, &[1e200, 1.0], &b, 0.0, [1, 2, 2], random);
+    assert_eq!(huge, Answer::stopped(16, 4, [1, 1, 0, 0]));
 }
 
 /// The check's own lengths: no words, a row that isn't whole records, and one that is too long.

@@ -37,10 +37,11 @@ fn check(words: usize, record: impl Fn(usize) -> [u32; 4]) -> Result<(), Refusal
         return Err((7, 0));
     }
     let [n, plan, slots, first] = record(0);
-    if !(1..=600).contains(&n) || plan > n * n || !(n..=n * n).contains(&slots) {
+    if !(1..=600).contains(&n) || plan > n * n || !(1..=n * n).contains(&slots) {
         return Err((8, 0));
     }
-    let (mut open, mut c, mut y, mut x) = (Open::None, 0, 0, 0);
+    // the closed slots are those up to c, and slot is the one opened last
+    let (mut open, mut slot, mut c, mut y, mut x) = (Open::None, 0, 0, 0, 0);
     let (mut at, mut next) = (0, first as usize);
     while next != 0 {
         if next <= at || next >= records {
@@ -56,10 +57,10 @@ fn check(words: usize, record: impl Fn(usize) -> [u32; 4]) -> Result<(), Refusal
                 if open != Open::None {
                     return refused(11);
                 }
-                if p > plan || q != c + 1 || q > slots {
+                if p > plan || q == 0 || q > c + 1 || q > slots {
                     return refused(12);
                 }
-                open = Open::C;
+                (open, slot) = (Open::C, q);
             }
             2 => {
                 if q != 0 {
@@ -114,7 +115,7 @@ fn check(words: usize, record: impl Fn(usize) -> [u32; 4]) -> Result<(), Refusal
                     return refused(10);
                 }
                 match open {
-                    Open::C => c += 1,
+                    Open::C => c = c.max(slot),
                     Open::Y if kind == 8 => y += 1,
                     Open::X if kind == 8 => x += 1,
                     _ => return refused(11),

@@ -6,26 +6,10 @@ use super::Refusal;
 pub type Written = [u64; 3];
 
 pub fn compile(n: u32, plan: &[u32], work: &mut [u32], words: &mut [u32]) -> Result<Written, Refusal> {
-    if !(1..=600).contains(&n) {
-        return Err((1, 0));
-    }
-    let square = (n * n) as usize;
-    if work.len() < square {
-        return Err((2, square as u64));
-    }
-    judge(n, plan)?;
-    let work = &mut work[..square];
-    mark(plan, work);
-    let table = Table::fill(n as usize, work);
-    if table.missing != 0 {
-        work.fill(0);
-        return Err((5, table.missing as u64));
-    }
-    if words.len() / 4 < table.records() {
-        return Err((6, table.records() as u64));
-    }
-    table.write(plan, work, &mut words[..4 * table.records()]);
-    Ok([table.slots as u64, table.products() as u64, table.records() as u64])
+    let table = Table::of(n, plan, 1, work)?;
+    let words = table.room(words)?;
+    table.write(plan, &work[..(n * n) as usize], table.slots, words);
+    Ok(table.written(table.slots))
 }
 
 /// 3 and 4: the first bad label.
@@ -52,11 +36,11 @@ fn mark(plan: &[u32], work: &mut [u32]) {
 }
 
 /// What is known of the held places beside their slots, which stand in the work slice by label. Rows and columns count from 1.
-struct Table {
-    n: usize,
+pub(super) struct Table {
+    pub(super) n: usize,
     slots: usize,
     /// The first held column of each row, and the first held row of each column; above n while there is none.
-    first_column: Vec<usize>,
+    pub(super) first_column: Vec<usize>,
     first_row: Vec<usize>,
     /// The held places below each pivot, and those to the right of it.
     below: Vec<usize>,
@@ -66,19 +50,19 @@ struct Table {
 }
 
 /// The indices in the work slice of (i, h) and (h, j) for h rising, by additions; h is below both i and j.
-struct Walk {
-    h: usize,
-    lower: usize,
+pub(super) struct Walk {
+    pub(super) h: usize,
+    pub(super) lower: usize,
     upper: usize,
     step: usize,
 }
 
 impl Walk {
-    fn new(n: usize, i: usize, j: usize, h: usize) -> Self {
+    pub(super) fn new(n: usize, i: usize, j: usize, h: usize) -> Self {
         Self { h, lower: (h - 1) * (2 * n - h) + i - 1, upper: h * (2 * n - h) - n + j - 1, step: 2 * (n - h) }
     }
 
-    fn advance(&mut self) {
+    pub(super) fn advance(&mut self) {
         self.h += 1;
         self.lower += self.step;
         self.upper += self.step - 1;
@@ -92,6 +76,26 @@ fn empties(first: &[usize], m: usize, marks: &[u32]) -> usize {
 }
 
 impl Table {
+    /// Checks 1 to 5, where 2 wants so many squares of work numbers; the first of them gets the slots.
+    pub(super) fn of(n: u32, plan: &[u32], squares: usize, work: &mut [u32]) -> Result<Self, Refusal> {
+        if !(1..=600).contains(&n) {
+            return Err((1, 0));
+        }
+        let square = (n * n) as usize;
+        if work.len() < squares * square {
+            return Err((2, (squares * square) as u64));
+        }
+        judge(n, plan)?;
+        let slots = &mut work[..square];
+        mark(plan, slots);
+        let table = Self::fill(n as usize, slots);
+        if table.missing != 0 {
+            work[..squares * square].fill(0);
+            return Err((5, table.missing as u64));
+        }
+        Ok(table)
+    }
+
     /// The slots of all places by rising label, in the place of their marks.
     fn fill(n: usize, work: &mut [u32]) -> Self {
         let mut table = Self {
@@ -136,7 +140,7 @@ impl Table {
     }
 
     /// The h from which on (i, h) and (h, j) can both be held.
-    fn start(&self, i: usize, j: usize) -> usize {
+    pub(super) fn start(&self, i: usize, j: usize) -> usize {
         self.first_column[i].max(self.first_row[j])
     }
 
@@ -180,8 +184,20 @@ impl Table {
         1 + 2 * (self.slots + 2 * self.n) + self.products() + self.n + above
     }
 
-    fn write(&self, plan: &[u32], work: &[u32], words: &mut [u32]) {
-        words[..4].copy_from_slice(&[self.n as u32, plan.len() as u32, self.slots as u32, 1]);
+    /// The words of the program, or 6.
+    pub(super) fn room<'a>(&self, words: &'a mut [u32]) -> Result<&'a mut [u32], Refusal> {
+        let records = self.records();
+        if words.len() / 4 < records { Err((6, records as u64)) } else { Ok(&mut words[..4 * records]) }
+    }
+
+    /// What the success carries.
+    pub(super) fn written(&self, slots: usize) -> Written {
+        [slots as u64, self.products() as u64, self.records() as u64]
+    }
+
+    /// The program, with the number that each label's place has in the work slice.
+    pub(super) fn write(&self, plan: &[u32], work: &[u32], slots: usize, words: &mut [u32]) {
+        words[..4].copy_from_slice(&[self.n as u32, plan.len() as u32, slots as u32, 1]);
         let mut formulas = Formulas { table: self, plan, position: 0, work, words, record: 1 };
         let mut label = 0;
         for m in 1..=self.n {

@@ -1,7 +1,8 @@
-//! The compiler, the checker, the runner and the file's writer and reader as one would write them in plain Rust, with the same
+//! The compilers, the checker, the runner and the file's writer and reader as one would write them in plain Rust, with the same
 //! checks and operations; and dense Crout.
 
 pub mod check;
+pub mod compact;
 pub mod compile;
 pub mod dense;
 pub mod file;

@@ -2,38 +2,66 @@
 
 use std::collections::BTreeSet;
 
-use crout_tests::networks::{self, VALUES};
+use crout_tests::networks::{self, SHAPES, VALUES};
 use crout_tests::random::Random;
 use crout_tests::reading::dense::At;
 use crout_tests::{programs, reading};
 
-use super::{check, compile, dense, file, run};
+use super::{Refusal, check, compact, compile, dense, file, run};
 
-#[test]
-fn the_same_compiler() {
-    let random = &mut Random(1);
-    for (mut n, mut plan) in networks::plans(1, 3000) {
+/// A call that compiles: order, plan, work numbers and words.
+type Call<T> = fn(u32, &[u32], &mut [u32], &mut [u32]) -> Result<T, Refusal>;
+
+/// Both compilers on plans of all kinds and slices of many lengths; so many squares of work numbers are needed.
+fn compare_compilers(plain: Call<compile::Written>, read: Call<reading::plan::Written>, squares: usize, seed: u64) {
+    let random = &mut Random(seed);
+    for (mut n, mut plan) in networks::plans(seed, 3000) {
         match random.below(10) {
             0 => plan.push(random.next() as u32),
             1 => plan.insert(random.below(plan.len() + 1), random.below((n * n) as usize + 2) as u32),
             2 => n = 601 * random.below(2) as u32,
             _ => {}
         }
-        let square = (n * n) as usize;
-        let mut work = vec![7; if random.chance(0.1) { square / 2 } else { square + 1 }];
+        let needed = squares * (n * n) as usize;
+        let mut work = vec![7; if random.chance(0.1) { needed / 2 } else { needed + 1 }];
         let mut words = vec![7; random.below(20_000)];
         let (mut read_work, mut read_words) = (work.clone(), words.clone());
-        let read = reading::plan::compile(n, &plan, &mut read_work, &mut read_words);
+        let read = read(n, &plan, &mut read_work, &mut read_words);
         let written = read.map(|written| [written.slots, written.products, written.records]);
-        assert_eq!(compile::compile(n, &plan, &mut work, &mut words), written);
+        assert_eq!(plain(n, &plan, &mut work, &mut words), written);
         assert!(work == read_work && words == read_words, "order {n}, plan {plan:?}");
+    }
+}
+
+#[test]
+fn the_same_compiler() {
+    compare_compilers(compile::compile, reading::plan::compile, 1, 1);
+}
+
+#[test]
+fn the_same_compact_compiler() {
+    compare_compilers(compact::compile, reading::compact::compile, 4, 6);
+}
+
+/// Networks of every shape, whose rows may be longer than a few blocks of zeros.
+#[test]
+fn the_same_compact_compiler_on_networks() {
+    let random = &mut Random(7);
+    for round in 0..300 {
+        let n = 1 + random.below(120) as u32;
+        let plan = SHAPES[round % SHAPES.len()].plan(n, random);
+        let Some(read) = programs::compacted(n, &plan) else { continue };
+        let (mut work, mut words) = (vec![7; 4 * (n * n) as usize], vec![7; read.len()]);
+        let written = compact::compile(n, &plan, &mut work, &mut words).expect("an accepted plan");
+        assert_eq!(written[0], u64::from(read[2]));
+        assert!(words == read, "order {n}, plan {plan:?}");
     }
 }
 
 /// Programs of all kinds, most of them damaged.
 fn program(random: &mut Random) -> Vec<u32> {
     let n = 1 + random.below(8) as u32;
-    let compiled = programs::compiled(n, &networks::any(n, random));
+    let compiled = programs::of_either(n, &networks::any(n, random), random);
     let mut words = compiled.unwrap_or_else(|| programs::accepted(random));
     for _ in 0..random.below(3) {
         programs::change(&mut words, random);

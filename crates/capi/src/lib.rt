@@ -1,4 +1,4 @@
-// The functions exported for C: document 01, "The C boundary"; document 02, A.1. The header is include/crout.h.
+// The functions exported for C: document 01, "The C boundary"; document 02, A.1 and A.11. The header is include/crout.h.
 mod answers;
 
 use answers::compile_answer;
@@ -11,7 +11,7 @@ use labels::Located;
 ghost use mathlib.Core.Path.{_≡_};
 ghost use lib.ListN.{length};
 ghost use Rattle.model.specs.Arith.{plusZero};
-ghost use Rattle.model.specs.Compile.{compiles, workAfter};
+ghost use Rattle.model.specs.Compile.{compact, compiles, workAfter, compilesBy, workAfterBy, wordsAfterBy};
 ghost use Rattle.model.specs.Compile.{wordsAfter as Compile·wordsAfter};
 ghost use Rattle.model.specs.Formula.{C, Y, X};
 ghost use Rattle.model.specs.Run.{ran, reply, leaves};
@@ -55,6 +55,24 @@ pub extern "C" fn crout_compile(
     ensures numbers { λ r. ⌜ now (out .exit) ≡ compiledNumbers (compiles n (now (plan .entry)) (length (now (work .entry))) (length (now (words .entry)))) ⌝ }
 {
     compile_answer(compiler::compile(n, plan, work, words), out)
+}
+
+// The same by the second compiler, whose program uses slots again.
+#[no_mangle]
+pub extern "C" fn crout_compile_compact(
+    n: u32,
+    plan: &[u32],
+    work: &mut [u32],
+    words: &mut [u32],
+    out: &mut [u64; 3],
+) -> u64
+    ensures answer { λ r. ⌜ r ≡ compiledNumber (compilesBy compact n (now (plan .entry)) (length (now (work .entry))) (length (now (words .entry)))) ⌝ }
+    ensures work { λ r. ⌜ now (work .exit) ≡ workAfterBy compact n (now (plan .entry)) (now (work .entry)) (length (now (words .entry))) ⌝ }
+    ensures words { λ r. ⌜ now (words .exit) ≡ wordsAfterBy compact n (now (plan .entry)) (length (now (work .entry))) (now (words .entry)) ⌝ }
+    ensures numbers { λ r. ⌜ now (out .exit)
+        ≡ compiledNumbers (compilesBy compact n (now (plan .entry)) (length (now (work .entry))) (length (now (words .entry)))) ⌝ }
+{
+    compile_answer(compiler::compile_compact(n, plan, work, words), out)
 }
 
 // Checks a program file's bytes: 18, then 7 to 13.

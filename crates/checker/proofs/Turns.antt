@@ -8,7 +8,8 @@ use lib.Dec.{ltb, eqb}
 use lib.ListN.{length}
 use borrow.Author.Tests.{eq-eqb, ne-eqb}
 use Rattle.model.specs.Check as Check
-use Rattle.model.specs.Check.{word, nextOf, whole, broken, Link, End, Chain, Verdict, refusal, kindOf, formed, inOrder, inTurn, onward, atEnd, checkLinks}
+use Rattle.model.specs.Check.{word, recordAt, nextOf, whole, broken, Link, End, Chain, Verdict, refusal}
+use Rattle.model.specs.Check.{kindOf, formed, inOrder, inTurn, onward, atEnd, checkLinks}
 use Rattle.model.proofs.Following.{chainFrom, chain-from, chain-ends, chain-breaks, chain-goes, check-ended, check-link}
 use Rattle.progress.specs.declared.Head.{Head}
 use Rattle.progress.specs.declared.Progress.{Progress}
@@ -30,7 +31,11 @@ unless-some r k v other = rw (unless, ne-eqb r 0 other)
 abbrev pub rest : Head → List ℕ → Check.Progress → ℕ → Verdict
 rest h W g k = checkLinks (h .order) (h .coefficients) (h .slots) g (chainFrom W k .links) (chainFrom W k .end)
 
--- what holds at the head of a loop: what is to be answered is the check from record k on, and no more entries are closed than records passed
+-- the progress after record n
+abbrev pub onwardAt : List ℕ → ℕ → Check.Progress → Check.Progress
+onwardAt W n g = let a = recordAt W n in onward (kindOf (a .kind)) (a .p) (a .q) g
+
+-- what holds at the head of a loop: what is to be answered is the check from record k on, and no more entries of Y and X are closed than records passed
 pub record CheckAfter (h : Head) (W : List ℕ) (g : Progress) (k : ℕ) : Type 0 where
   pub same : followed h W ≡ rest h W (progressOf g) k
   pub inside : k < length W / 4
@@ -55,7 +60,7 @@ pub record Turn (h : Head) (W : List ℕ) (g : Progress) (k n r : ℕ) : Type 0 
 link-judged : (N n s : ℕ) (g : Check.Progress) (l : Link) (ls : List Link) (e : End) → let k = kindOf (l .at .kind) in
     checkLinks N n s g (l ∷ ls) e
     ≡ unless (firstOf (formed k (l .at .p) (l .at .q)) (inOrder k (g .target)) (inTurn N n s k (l .at .p) (l .at .q) g)) (l .index)
-    (checkLinks N n s (onward k g) ls e)
+    (checkLinks N n s (onward k (l .at .p) (l .at .q) g) ls e)
 unfolding firstOf
 link-judged N n s g l ls e =
     let k = kindOf (l .at .kind) in
@@ -65,9 +70,9 @@ link-judged N n s g l ls e =
       | false ↦ refusal 10 (l .index)
       | true ↦ elim o [
         | false ↦ refusal 11 (l .index)
-        | true ↦ elim t [ false ↦ refusal 12 (l .index) | true ↦ checkLinks N n s (onward (kindOf (l .at .kind)) g) ls e ]
+        | true ↦ elim t [ false ↦ refusal 12 (l .index) | true ↦ checkLinks N n s (onward (kindOf (l .at .kind)) (l .at .p) (l .at .q) g) ls e ]
       ]
-    ] ≡ unless (firstOf f o t) (l .index) (checkLinks N n s (onward (kindOf (l .at .kind)) g) ls e)
+    ] ≡ unless (firstOf f o t) (l .index) (checkLinks N n s (onward (kindOf (l .at .kind)) (l .at .p) (l .at .q) g) ls e)
     step false o t = refl
     step true false t = refl
     step true true false = refl
@@ -99,21 +104,22 @@ module _ (h : Head) (W : List ℕ) where
 
     links : k < nextOf W k → nextOf W k < length W / 4
         → followed h W ≡ unless (refusalOf h g (word W (4 * nextOf W k)) (word W (4 * nextOf W k + 1)) (word W (4 * nextOf W k + 2))) (nextOf W k)
-        (rest h W (onward (kindOf (word W (4 * nextOf W k))) (progressOf g)) (nextOf W k))
+        (rest h W (onwardAt W (nextOf W k) (progressOf g)) (nextOf W k))
     unfolding along
     links up low = here .same ∙ ap (along (progressOf g)) (chain-goes W k up low) ∙ link-judged _ _ _ (progressOf g) _ _ _
 
   module _ (g : Progress) (k n r : ℕ) (t : Turn h W g k n r) where
-    turned : followed h W ≡ unless r n (rest h W (onward (kindOf (word W (4 * n))) (progressOf g)) n)
+    turned : followed h W ≡ unless r n (rest h W (onwardAt W n (progressOf g)) n)
     turned =
         subst (λ m. followed h W ≡ unless (refusalOf h g (word W (4 * m)) (word W (4 * m + 1)) (word W (4 * m + 2))) m
-        (rest h W (onward (kindOf (word W (4 * m))) (progressOf g)) m))
+        (rest h W (onwardAt W m (progressOf g)) m))
         (sym (t .is)) (links g k (t .here) (omega arith) (omega arith))
-        ∙ ap (λ r. unless r n (rest h W (onward (kindOf (word W (4 * n))) (progressOf g)) n)) (sym (t .refusal-is))
+        ∙ ap (λ r. unless r n (rest h W (onwardAt W n (progressOf g)) n)) (sym (t .refusal-is))
 
-    pub check-goes-on : r ≡ 0 → (g′ : Progress) → progressOf g′ ≡ onward (kindOf (word W (4 * n))) (progressOf g) → CheckAfter h W g′ n
+    pub check-goes-on : r ≡ 0 → (g′ : Progress) → progressOf g′ ≡ onwardAt W n (progressOf g) → CheckAfter h W g′ n
     check-goes-on none g′ e =
-        let few : total (progressOf g′) ≤ n = omega (arith, onward-total (kindOf (word W (4 * n))) (progressOf g), ap total e) in
+        let a = recordAt W n in
+        let few : total (progressOf g′) ≤ n = omega (arith, onward-total (kindOf (a .kind)) (a .p) (a .q) (progressOf g), ap total e) in
         record { same = turned ∙ unless-none r n _ none ∙ ap (λ m. rest h W m n) (sym e); inside = t .low; few = few }
 
     pub check-refuses : (r ≡ 0 → ⊥) → refusal r n ≡ followed h W

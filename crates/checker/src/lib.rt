@@ -1,4 +1,5 @@
-// A program's words, or a file's bytes, against checks 7 to 13: document 01, "Where each refusal is checked". One pass, no memory.
+// A program's words, or a file's bytes, against checks 7 to 13: document 01, "Where each refusal is checked"; document 02, A.11.
+// One pass, no memory.
 use numbers::wide;
 use numbers::within;
 use progress::Head;
@@ -90,12 +91,12 @@ fn head_of(r: Record) -> Head
     }
 }
 
-// 8: N in 1..600, n at most N², s in N..N².
+// 8: N in 1..600, n at most N², s in 1..N².
 fn head_fits(h: Head) -> bool
     ensures { λ r. ⌜ r ≡ eight (h .order) (h .coefficients) (h .slots) ⌝ }
 {
     let n = h.order;
-    within(n, 600) && (h.coefficients <= n * n && (n <= h.slots && h.slots <= n * n))
+    within(n, 600) && (h.coefficients <= n * n && (1 <= h.slots && h.slots <= n * n))
 }
 
 // The records along the chain, and its end. In the inner loop each is the one that follows the last, so that it is read without waiting
@@ -126,7 +127,7 @@ fn follow(words: &[u32], bytes: &[u8], filed: bool, h: Head, records: usize) -> 
                     detail: next as u64,
                 };
             }
-            g = progress::onward(r.kind, g);
+            g = progress::onward(r.kind, r.p, r.q, g);
             k = next;
             if records <= following {
                 break;

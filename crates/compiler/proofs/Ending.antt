@@ -1,47 +1,73 @@
--- How compiling ends, from what marking, the slot pass, the clearing and the writer leave.
+-- How compiling ends, from what the slot pass, the clearing and the writer leave.
 use Prim.Native.Nat.{ℕ, _+_, _*_, _≤_, _<_}
-use mathlib.Core.Path.{_≡_, sym, ap, _∙_}
+use native.Mathlib.Omega.{arith}
+use mathlib.Core.Path.{_≡_, sym, ap, ap₂, _∙_}
 use mathlib.Core.Bool.{true}
 use mathlib.Core.List.{List, _++_}
-use lib.ListN.{length, drop, replicate}
-use lib.Seq.{take-at, drop-at}
+use lib.ListN.{length, take, drop, replicate, length-append, length-drop, length-replicate}
+use lib.Seq.{take-at, drop-at, drop-drop}
 use Rattle.model.specs.Label.{isOrder}
 use Rattle.model.specs.Fill.{Plan, missing, recordCount}
-use Rattle.model.specs.Program.{compiled}
-use Rattle.model.specs.Compile.{judged, good, written, refusal, slotNumbers}
+use Rattle.model.specs.Program.{program, compiled}
+use Rattle.model.specs.Compact.{compactSlots, compacted}
+use Rattle.model.specs.Compile.{written, refusal, Compiler, plain, compact, wanted, spare, slotsBy, programBy, slotNumbers, workWith}
 use Rattle.model.proofs.Within.{within-range}
 use Rattle.model.proofs.Bounds.{records-at-most}
+use Rattle.model.proofs.Counts.{records-counted}
 use Rattle.model.proofs.WorkNumbers.{slot-numbers-length}
-use Rattle.model.proofs.Compiles.{Ends, ends-pivot, ends-words, ends-done}
-use Rattle.slots.specs.Marks.{Marked}
-use Rattle.slots.specs.Walked.{FillsPlan}
+use Rattle.model.proofs.Compiles.{Ends, ends-room, ends-pivot, ends-words, ends-done}
 use Rattle.slots.specs.declared.Filled.{Filled}
+use Rattle.writer.specs.Line.{planRecords}
 use Rattle.writer.specs.Prepared.{Prepared}
+use Rattle.compiler.specs.Slotted.{Slotted}
+use Rattle.compiler.proofs.Begun.{wanted-is}
+use Rattle.compiler.proofs.Numbers.{slots-agree, plan-compiled}
+
+-- too few work numbers
+pub room-ends : {c : Compiler} {N : ℕ} {L : Plan} {work words : List ℕ} {detail : ℕ} → detail ≡ wanted c N → isOrder N ≡ true → length work < detail
+    → Ends c N L work words (refusal 2 detail) work words
+room-ends {c} {N} {L} {work} {words} e order few = rw e (ends-room c N L work words order (rw e at few))
 
 -- document 01's sum
 abbrev recordsOf : ℕ → Filled → ℕ
 recordsOf n r = 1 + 2 * (r .slots + 2 * n) + r .products + n + r .above
 
--- checks 1 to 4 are passed, the plan is marked, and its places are filled
-pub record Slotted (N : ℕ) (L : Plan) (work work′ rows columns : List ℕ) (r : Filled) : Type 0 where
-  pub order : isOrder N ≡ true
-  pub labels : judged N 0 1 L ≡ good
-  pub room : N * N ≤ length work
-  pub marks : List ℕ
-  pub marked : Marked N L work marks
-  pub filled : FillsPlan N L marks work′ rows columns r
+module _ {c : Compiler} {N : ℕ} {L : Plan} {before work inRows inColumns : List ℕ} {r : Filled} (s : Slotted c N L before work inRows inColumns r) where
+  numbers : work ≡ workWith c N (slotNumbers N L) before
+  numbers = s .filled .written ∙ ap (λ l. slotNumbers N L ++ l) (s .rest)
 
-module _ {N : ℕ} {L : Plan} {work work′ rows columns : List ℕ} {r : Filled} (s : Slotted N L work work′ rows columns r) where
-  numbers : work′ ≡ slotNumbers N L ++ drop (N * N) work
-  numbers = s .filled .written ∙ ap (λ l. slotNumbers N L ++ l) (s .marked .rest)
+  slots-first : take (N * N) work ≡ slotNumbers N L
+  slots-first = rw numbers (take-at _ _ (N * N) (slot-numbers-length N L))
+
+  past-slots : drop (N * N) work ≡ replicate (spare c N) 0 ++ drop (wanted c N) before
+  past-slots = rw numbers (drop-at (slotNumbers N L) _ (N * N) (slot-numbers-length N L))
+
+  past-wanted : drop (wanted c N) work ≡ drop (wanted c N) before
+  past-wanted =
+      ap (λ k. drop k work) (sym (wanted-is c N))
+      ∙ sym (drop-drop (spare c N) (N * N) work)
+      ∙ ap (drop (spare c N)) past-slots
+      ∙ drop-at (replicate (spare c N) 0) _ (spare c N) (length-replicate (spare c N) 0)
+
+  pub roomy : wanted c N ≤ length work
+  roomy = omega (
+    arith,
+    s .room,
+    wanted-is c N,
+    ap length numbers,
+    length-append (slotNumbers N L) (replicate (spare c N) 0 ++ drop (wanted c N) before),
+    slot-numbers-length N L,
+    length-append (replicate (spare c N) 0) (drop (wanted c N) before),
+    length-replicate {A = ℕ} (spare c N) 0,
+    length-drop (wanted c N) before,
+  )
 
   -- a missing pivot, and the work numbers cleared
-  pub missing-ends : (words : List ℕ) {cleared : List ℕ} → (r .missing ≡ 0 → ⊥) → cleared ≡ replicate (N * N) 0 ++ drop (N * N) work′
-      → Ends N L work words (refusal 5 (r .missing)) cleared words
+  pub missing-ends : (words : List ℕ) {cleared : List ℕ} → (r .missing ≡ 0 → ⊥) → cleared ≡ replicate (N * N) 0 ++ drop (N * N) work
+      → Ends c N L before words (refusal 5 (r .missing)) cleared words
   missing-ends words {cleared} gone e =
-      let rest : drop (N * N) work′ ≡ drop (N * N) work = rw numbers (drop-at (slotNumbers N L) _ (N * N) (slot-numbers-length N L)) in
-      let clean : cleared ≡ replicate (N * N) 0 ++ drop (N * N) work = e ∙ ap (λ l. replicate (N * N) 0 ++ l) rest in
-      rw (s .filled .missing-is, clean) (ends-pivot N L work words (s .order) (s .room) (s .labels) (λ none. gone (s .filled .missing-is ∙ none)))
+      let clean : cleared ≡ workWith c N (replicate (N * N) 0) before = e ∙ ap (λ l. replicate (N * N) 0 ++ l) past-slots in
+      rw (s .filled .missing-is, clean) (ends-pivot c N L before words (s .order) (s .room) (s .labels) (λ none. gone (s .filled .missing-is ∙ none)))
 
   records-are : recordsOf N r ≡ recordCount N L
   unfolding recordCount
@@ -50,22 +76,24 @@ module _ {N : ℕ} {L : Plan} {work work′ rows columns : List ℕ} {r : Filled
   pub records-fit : recordsOf N r ≤ 100000000
   records-fit = rw records-are (records-at-most N L (within-range N 600 (s .order) .1))
 
-  module _ (complete : r .missing ≡ 0) (words : List ℕ) (records : ℕ) (count : records ≡ recordsOf N r) where
-    none : missing N L ≡ 0
-    none = sym (s .filled .missing-is) ∙ complete
+  pub none : r .missing ≡ 0 → missing N L ≡ 0
+  none complete = sym (s .filled .missing-is) ∙ complete
 
+  module _ (complete : r .missing ≡ 0) (words : List ℕ) (records : ℕ) (count : records ≡ recordsOf N r) where
     -- too few words
-    pub short-ends : length words < 4 * records → Ends N L work words (refusal 6 records) work′ words
-    short-ends few = let all = count ∙ records-are in rw (all, numbers) (ends-words N L work words (s .order) (s .room) (s .labels) none (rw all at few))
+    pub short-ends : length words < 4 * records → Ends c N L before words (refusal 6 records) work words
+    short-ends few =
+        let all = count ∙ records-are in
+        rw (all, numbers) (ends-words c N L before words (s .order) (s .room) (s .labels) (none complete) (rw all at few))
 
     module _ (enough : 4 * records ≤ length words) where
-      pub prepared : Prepared N L work′ rows columns words (r .slots)
+      pub prepared : Prepared N L work inRows inColumns words
       prepared = record {
         order = s .order;
         rises = s .labels;
-        complete = none;
-        slots-are = s .filled .slots-are;
-        numbers = rw numbers (take-at _ _ (N * N) (slot-numbers-length N L));
+        covers = omega (arith, roomy, wanted-is c N);
+        kept = λ i j inside. sym (slots-agree N L work slots-first i j inside .1);
+        records = rw (plan-compiled N L work slots-first) at (records-counted N L (none complete));
         row-count = s .filled .row-count;
         column-count = s .filled .column-count;
         skips = s .filled .skips;
@@ -73,9 +101,27 @@ module _ {N : ℕ} {L : Plan} {work work′ rows columns : List ℕ} {r : Filled
       }
 
       -- the program is written
-      pub done-ends : (words′ : List ℕ) → words′ ≡ compiled N L ++ drop (4 * recordCount N L) words
-          → Ends N L work words (written (r .slots) (r .products) records) work′ words′
-      done-ends words′ program =
+      done-ends : {slots : ℕ} {work′ words′ : List ℕ} → slots ≡ slotsBy c N L → work′ ≡ workWith c N (slotNumbers N L) before
+          → words′ ≡ programBy c N L ++ drop (4 * recordCount N L) words → Ends c N L before words (written slots (r .products) records) work′ words′
+      done-ends made left wrote =
           let all = count ∙ records-are in
-          rw (s .filled .slots-are, s .filled .products-are, all, numbers, program)
-          (ends-done N L work words (s .order) (s .room) (s .labels) none (rw all at enough))
+          rw (made, s .filled .products-are, all, left, wrote)
+          (ends-done c N L before words (s .order) (s .room) (s .labels) (none complete) (rw all at enough))
+
+      -- with the plain slots,
+      pub plain-ends : c ≡ plain → {words′ : List ℕ} → words′ ≡ program N (length L) (r .slots) (planRecords N L work) ++ drop (4 * recordCount N L) words
+          → Ends c N L before words (written (r .slots) (r .products) records) work words′
+      unfolding compiled
+      plain-ends is wrote =
+          done-ends (s .filled .slots-are ∙ sym (ap (λ c. slotsBy c N L) is)) numbers
+          (wrote ∙ rw (is, s .filled .slots-are, plan-compiled N L work slots-first))
+
+      -- and with slots used again
+      pub compact-ends : c ≡ compact → {slots : ℕ} {work′ words′ : List ℕ} → slots ≡ compactSlots N L → work′ ≡ workWith compact N (take (N * N) work) work
+          → words′ ≡ compacted N L ++ drop (4 * recordCount N L) words → Ends c N L before words (written slots (r .products) records) work′ words′
+      compact-ends is made left wrote =
+          done-ends (made ∙ sym (ap (λ c. slotsBy c N L) is))
+          (left
+          ∙ sym (ap (λ c. workWith c N (take (N * N) work) work) is)
+          ∙ ap₂ (λ xs ys. xs ++ (replicate (spare c N) 0 ++ ys)) slots-first past-wanted)
+          (wrote ∙ sym (ap (λ c. programBy c N L ++ drop (4 * recordCount N L) words) is))

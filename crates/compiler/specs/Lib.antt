@@ -1,3 +1,4 @@
 -- What the contracts of the compiler cite.
 pub mod Compilation
 pub mod Judge
+pub mod Slotted

@@ -1,17 +1,26 @@
-// The compiler: document 01, "Fill and slots", "Records" and checks 1 to 6.
+// The compiler: document 01, "Fill and slots", "Records" and checks 1 to 6; document 02, A.11.
 mod checks;
 
 use checks::Judged;
 use numbers::wide;
 use numbers::within;
+use slots::Filled;
 ghost use mathlib.Core.Path.{_≡_};
 ghost use mathlib.Core.Bool.{true};
-ghost use Prim.Native.Nat.{_+_, _*_, _≤_};
-ghost use lib.ListN.{length};
+ghost use mathlib.Core.List.{List, _++_};
+ghost use Prim.Native.Nat.{ℕ, _+_, _*_, _≤_};
+ghost use lib.ListN.{length, take, drop};
+ghost use lib.Seq.{paste};
 ghost use Rattle.model.specs.Label.{isOrder};
-ghost use Rattle.model.specs.Compile.{judged, good, compiles, workAfter, wordsAfter};
+ghost use Rattle.model.specs.Fill.{missing, recordCount};
+ghost use Rattle.model.specs.Compact.{compactSlots, compacted};
+ghost use Rattle.model.specs.Compile.{judged, good, wanted, compact, workWith, compiles, workAfter, wordsAfter};
+ghost use Rattle.model.specs.Compile.{compilesBy, workAfterBy, wordsAfterBy};
+ghost use Rattle.model.specs.Compile.{spare as Compile·spare};
 ghost use Rattle.model.proofs.Compiles.{Ends};
-ghost use Rattle.compiler.specs.Compilation.{compiledOf};
+ghost use Rattle.writer.specs.Prepared.{Prepared};
+ghost use Rattle.compiler.specs.Compilation.{compiledOf, compilerOf};
+ghost use Rattle.compiler.specs.Slotted.{Slotted, SomeSlotted};
 
 // What the compiler answers: the slots, the product count and the records of the program written, or a refusal's number and its detail.
 pub enum Compilation {
@@ -32,17 +41,35 @@ pub fn compile(n: u32, plan: &[u32], work: &mut [u32], words: &mut [u32]) -> Com
     ensures work { λ r. ⌜ now (work .exit) ≡ workAfter n (now (plan .entry)) (now (work .entry)) (length (now (words .entry))) ⌝ }
     ensures words { λ r. ⌜ now (words .exit) ≡ wordsAfter n (now (plan .entry)) (length (now (work .entry))) (now (words .entry)) ⌝ }
 {
+    compile_by(n, plan, work, words, false)
+}
+
+// The second compiler: the same program with slots used again, so that s is the largest number of values alive at any record. Check 2 wants
+// 4 n² work numbers; those past the first n² are 0 after 5, 6 and success.
+pub fn compile_compact(n: u32, plan: &[u32], work: &mut [u32], words: &mut [u32]) -> Compilation
+    ensures answer { λ r. ⌜ compiledOf r ≡ compilesBy compact n (now (plan .entry)) (length (now (work .entry))) (length (now (words .entry))) ⌝ }
+    ensures work { λ r. ⌜ now (work .exit) ≡ workAfterBy compact n (now (plan .entry)) (now (work .entry)) (length (now (words .entry))) ⌝ }
+    ensures words { λ r. ⌜ now (words .exit) ≡ wordsAfterBy compact n (now (plan .entry)) (length (now (work .entry))) (now (words .entry)) ⌝ }
+{
+    compile_by(n, plan, work, words, true)
+}
+
+// Either of them.
+fn compile_by(n: u32, plan: &[u32], work: &mut [u32], words: &mut [u32], again: bool) -> Compilation
+    ensures { λ r. ⌜ Ends (compilerOf again) n (now (plan .entry)) (now (work .entry)) (now (words .entry))
+        (compiledOf r) (now (work .exit)) (now (words .exit)) ⌝ }
+{
     if !within(n, 600) {
         return Compilation::Refused {
             number: 1,
             detail: 0,
         };
     }
-    let square = n * n;
-    if work.len() < wide(square) {
+    let wanted = n * n + spare(n, again);
+    if work.len() < wide(wanted) {
         return Compilation::Refused {
             number: 2,
-            detail: square as u64,
+            detail: wanted as u64,
         };
     }
     match checks::judge(n, plan) {
@@ -50,41 +77,122 @@ pub fn compile(n: u32, plan: &[u32], work: &mut [u32], words: &mut [u32]) -> Com
             number,
             detail: position,
         },
-        Judged::Good => compile_good(n, plan, work, words),
+        Judged::Good => compile_good(n, plan, work, words, again),
     }
 }
 
+// The work numbers past the first n² that the compiler uses.
+fn spare(n: u32, again: bool) -> u32
+    requires { ⌜ n ≤ 600 ⌝ }
+    ensures { λ r. ⌜ r ≡ Compile·spare (compilerOf again) n ⌝ }
+{
+    if again { 3 * (n * n) } else { 0 }
+}
+
 // The same for a plan that checks 1 to 4 let through.
-fn compile_good(n: u32, plan: &[u32], work: &mut [u32], words: &mut [u32]) -> Compilation
-    requires { ⌜ (isOrder n ≡ true) × ((judged n 0 1 (now plan) ≡ good) × (n * n ≤ length (now work))) ⌝ }
-    ensures { λ r. ⌜ Ends n (now (plan .entry)) (now (work .entry)) (now (words .entry)) (compiledOf r) (now (work .exit)) (now (words .exit)) ⌝ }
+fn compile_good(
+    n: u32,
+    plan: &[u32],
+    work: &mut [u32],
+    words: &mut [u32],
+    again: bool,
+) -> Compilation
+    requires { ⌜ (isOrder n ≡ true) × ((judged n 0 1 (now plan) ≡ good) × (wanted (compilerOf again) n ≤ length (now work))) ⌝ }
+    ensures { λ r. ⌜ Ends (compilerOf again) n (now (plan .entry)) (now (work .entry)) (now (words .entry))
+        (compiledOf r) (now (work .exit)) (now (words .exit)) ⌝ }
 {
     let mut rows = [601u32; 601];
     let mut columns = [601u32; 601];
+    let square = wide(n * n);
     slots::mark(n, plan, work);
+    slots::clear(&mut work[square..], wide(spare(n, again)));
     let filled = slots::fill(n, work, &mut rows, &mut columns);
     let missing = filled.missing;
     if missing != 0 {
-        slots::clear(work, wide(n * n));
+        slots::clear(work, square);
         return Compilation::Refused {
             number: 5,
             detail: missing as u64,
         };
     }
-    let slots = filled.slots;
+    compile_filled(n, plan, work, &rows, &columns, words, filled, again)
+}
+
+// The same once the slots stand in the work numbers and no pivot is missing.
+fn compile_filled(
+    n: u32,
+    plan: &[u32],
+    work: &mut [u32],
+    rows: &[u32],
+    columns: &[u32],
+    words: &mut [u32],
+    filled: Filled,
+    again: bool,
+) -> Compilation
+    requires { ⌜ SomeSlotted (compilerOf again) n (now plan) (now work) (now rows) (now columns) filled ⌝ }
+    requires { ⌜ filled .missing ≡ 0 ⌝ }
+    ensures { λ r. ⌜ ((before : List ℕ)
+        → Slotted (compilerOf again) n (now (plan .entry)) before (now (work .entry)) (now (rows .entry)) (now (columns .entry)) filled
+        → Ends (compilerOf again) n (now (plan .entry)) before (now (words .entry)) (compiledOf r) (now (work .exit)) (now (words .exit))) ⌝ }
+{
     let products = filled.products;
-    let records = record_count(n, slots, products, filled.above);
+    let records = record_count(n, filled.slots, products, filled.above);
     if words.len() < 4 * wide(records) {
         return Compilation::Refused {
             number: 6,
             detail: records as u64,
         };
     }
-    writer::write(n, plan, work, &rows, &columns, words, slots);
+    if again {
+        let slots = write_compact(n, plan, work, rows, columns, words);
+        return Compilation::Written {
+            slots,
+            products,
+            records,
+        };
+    }
+    let slots = filled.slots;
+    writer::write(n, plan, work, rows, columns, words, slots);
     Compilation::Written {
         slots,
         products,
         records,
+    }
+}
+
+// The program with slots used again, and how many it has. The slots given stand past the plain ones while it is written, and are 0 then.
+fn write_compact(
+    n: u32,
+    plan: &[u32],
+    work: &mut [u32],
+    rows: &[u32],
+    columns: &[u32],
+    words: &mut [u32],
+) -> u32
+    requires { ⌜ Prepared n (now plan) (now work) (now rows) (now columns) (now words) ⌝ }
+    requires { ⌜ (missing n (now plan) ≡ 0) × (4 * (n * n) ≤ length (now work)) ⌝ }
+    ensures { λ r. ⌜ r ≡ compactSlots n (now (plan .entry)) ⌝ }
+    ensures { λ r. ⌜ now (words .exit) ≡ compacted n (now (plan .entry)) ++ drop (4 * recordCount n (now (plan .entry))) (now (words .entry)) ⌝ }
+    ensures { λ r. ⌜ now (work .exit) ≡ workWith compact n (take (n * n) (now (work .entry))) (now (work .entry)) ⌝ }
+{
+    let square = wide(n * n);
+    let whole = 4 * square;
+    copy_past(work, square);
+    let made = reuse::assign(n, rows, &mut work[square..whole]);
+    writer::write(n, plan, &work[square..], rows, columns, words, made);
+    slots::clear(&mut work[square..], 3 * square);
+    made
+}
+
+// The first count work numbers are copied past them.
+fn copy_past(work: &mut [u32], count: usize)
+    requires { ⌜ 2 * count ≤ length (now work) ⌝ }
+    ensures { λ r. ⌜ now (work .exit) ≡ paste (now (work .entry)) count (now (work .entry)) count ⌝ }
+{
+    let mut k = 0;
+    while k < count {
+        work[count + k] = work[k];
+        k += 1;
     }
 }
 

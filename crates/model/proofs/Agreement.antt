@@ -13,7 +13,7 @@ use Rattle.model.specs.Check.{chain}
 use Rattle.model.specs.Run.{fresh, follow, followed, ran}
 use Rattle.model.specs.Agreement.{Accepted, whole, seen, compressed, Agrees}
 use Rattle.model.proofs.Within.{within-range}
-use Rattle.model.proofs.Runs.{gated-open, finite-fine, lengths-right, ran-fine}
+use Rattle.model.proofs.Runs.{runs-open, finite-fine, lengths-right}
 use Rattle.model.proofs.Tally.{productsOf, quotientsOf}
 use Rattle.model.proofs.Machine.{machine, reduced-started, shown}
 use Rattle.model.proofs.Reduction.{squeezed, reduced-is-dense, solved-packed}
@@ -28,8 +28,8 @@ module _ {N : ℕ} {L : Plan} {A B : List Float} {limit : Float} (accepted : Acc
   pub runs : ran (compiled N L) A B limit (slots N L) N N ≡ followed (follow A B limit (fresh N) (chain (compiled N L) .links))
   unfolding compiled
   runs =
-      ran-fine (compiled N L) A B limit (slots N L) N N (program-fine N L (given .order) (given .labels) pivots)
-      ∙ gated-open _ _ _ _ _ (lengths-right N (length L) (slots N L) _ _ _ _ _ (given .lengthA) (given .lengthB) refl refl refl)
+      runs-open (compiled N L) A B limit (slots N L) N N (program-fine N L (given .order) (given .labels) pivots)
+      (lengths-right N (length L) (slots N L) _ _ _ _ _ (given .lengthA) (given .lengthB) refl refl refl)
       (finite-fine A B limit (record { finiteA = given .finiteA; finiteB = given .finiteB; limited = given .limited }))
 
   -- the run's ending is that of the reduced formulas, with the plan's counts

@@ -62,7 +62,7 @@ kind-subtracts C = refl
 kind-subtracts Y = refl
 kind-subtracts X = refl
 
-settled-test : (b : Bool) (v : Float) (after : Float → State) → cond b (stop 17) (going (after v)) ≡ settledStep (cond b zeroDivisor (number v)) after
+pub settled-test : (b : Bool) (v : Float) (after : Float → State) → cond b (stop 17) (going (after v)) ≡ settledStep (cond b zeroDivisor (number v)) after
 settled-test true v after = refl
 settled-test false v after = refl
 
@@ -151,7 +151,7 @@ module _ (A B : List Float) (limit : Float) where
 
   -- a row of formulas goes on after its first as a run does
   resumed-worked : (p q g : ℕ) (t : Tables) (f : Formula) (fs : List Formula) (on : Float → Seen)
-      → ((v : Float) → on v ≡ shown p q (worked A B limit (g + vanishedBy t f) (closed t (f .table) v) fs))
+      → ((v : Float) → on v ≡ shown p q (worked A B limit (g + vanishedBy t f) (closed t (f .table) (f .target) v) fs))
       → resumed f (value A B limit t f) on ≡ shown p q (worked A B limit g t (f ∷ fs))
   unfolding worked shown resumed
   resumed-worked p q g t f fs on same = by (value A B limit t f) refl

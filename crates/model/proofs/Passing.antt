@@ -4,7 +4,7 @@ use native.Mathlib.Omega.{arith}
 use mathlib.Core.Path.{_≡_, refl}
 use mathlib.Core.Bool.{Bool, true, false, cond, _&&_, and-eq-true-iff}
 use mathlib.Core.List.{List, _∷_}
-use borrow.Author.Tests.{ltb-true, leb-true, eqb-true}
+use borrow.Author.Tests.{lt-ltb, ltb-true, le-leb, leb-true, eq-eqb, eqb-true}
 use lib.Dec.{eqb, leb, ltb}
 use lib.ListN.{length}
 use Rattle.model.specs.Label.{isOrder}
@@ -21,7 +21,7 @@ both a b = and-eq-true-iff a b .0
 
 -- 8's test
 abbrev pub eight : ℕ → ℕ → ℕ → Bool
-eight N n s = isOrder N && (leb n (N * N) && (leb N s && leb s (N * N)))
+eight N n s = isOrder N && (leb n (N * N) && (leb 1 s && leb s (N * N)))
 
 -- 9's test, of the next index n of record k
 pub next-range : (k n records : ℕ) → ltb k n && ltb n records ≡ true → (k < n) × (n < records)
@@ -36,6 +36,11 @@ pub record Passed (W : List ℕ) : Type 0 where
   pub few : length W / 4 ≤ 100000000
   pub head : eight (word W 0) (word W 1) (word W 2) ≡ true
   pub links : checkLinks (word W 0) (word W 1) (word W 2) begun (chain W .links) (chain W .end) ≡ fine
+
+pub passed-fine : (W : List ℕ) → Passed W → check W ≡ fine
+unfolding check
+passed-fine W p =
+    rw (check, lt-ltb 0 (length W) (p .some), eq-eqb (length W % 4) 0 (p .fours), le-leb (length W / 4) 100000000 (p .few), p .head) (p .links)
 
 pub fine-passed : (W : List ℕ) → check W ≡ fine → Passed W
 unfolding check
@@ -60,7 +65,7 @@ pub record LinkPassed (N n s : ℕ) (g : Progress) (l : Link) (ls : List Link) (
   pub ten : formed (kindOf (l .at .kind)) (l .at .p) (l .at .q) ≡ true
   pub eleven : inOrder (kindOf (l .at .kind)) (g .target) ≡ true
   pub twelve : inTurn N n s (kindOf (l .at .kind)) (l .at .p) (l .at .q) g ≡ true
-  pub later : checkLinks N n s (onward (kindOf (l .at .kind)) g) ls e ≡ fine
+  pub later : checkLinks N n s (onward (kindOf (l .at .kind)) (l .at .p) (l .at .q) g) ls e ≡ fine
 
 pub link-passed : (N n s : ℕ) (g : Progress) (l : Link) (ls : List Link) (e : End) → checkLinks N n s g (l ∷ ls) e ≡ fine → LinkPassed N n s g l ls e
 unfolding checkLinks
@@ -71,7 +76,7 @@ link-passed N n s g l ls e passes =
     k = kindOf (l .at .kind)
 
     rest : Verdict
-    rest = checkLinks N n s (onward k g) ls e
+    rest = checkLinks N n s (onward k (l .at .p) (l .at .q) g) ls e
 
     go : (ten eleven twelve : Bool) → formed k (l .at .p) (l .at .q) ≡ ten → inOrder k (g .target) ≡ eleven → inTurn N n s k (l .at .p) (l .at .q) g ≡ twelve
         → elim ten as (λ b. Verdict) [

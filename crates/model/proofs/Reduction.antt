@@ -41,10 +41,10 @@ record Targets (f : Formula) (tb : Table) (k : ℕ) : Type 0 where
   target-is : f .target ≡ k
 
 worked-cons : {f : Formula} {tb : Table} {k : ℕ} → Targets f tb k → (A B : List Float) (limit : Float) (g : ℕ) (t : Tables) (fs : List Formula)
-    → worked A B limit g t (f ∷ fs) ≡ onward (value A B limit t f) tb k (λ v. worked A B limit (g + vanishedBy t f) (closed t tb v) fs)
+    → worked A B limit g t (f ∷ fs) ≡ onward (value A B limit t f) tb k (λ v. worked A B limit (g + vanishedBy t f) (closed t tb k v) fs)
 unfolding worked
 worked-cons {f} to A B limit g t fs =
-    ap₂ (λ tb k. onward (value A B limit t f) tb k (λ v. worked A B limit (g + vanishedBy t f) (closed t tb v) fs)) (to .table-is) (to .target-is)
+    ap₂ (λ tb k. onward (value A B limit t f) tb k (λ v. worked A B limit (g + vanishedBy t f) (closed t tb k v) fs)) (to .table-is) (to .target-is)
 
 place-targets : (N : ℕ) (L : Plan) (index : ℕ → ℕ → ℕ) (keep : ℕ → ℕ → Bool) (i j : ℕ) → Targets (formulaOf N L index keep i j) C (index i j)
 unfolding formulaOf lower upper
@@ -82,7 +82,7 @@ onward-same N L zeroDivisor tb k k′ rest rest′ ends go = ends 17
 worked-solved : {f : Formula} {tb : Table} {k : ℕ} → Targets f tb k
     → (P : Type 0) (A B : List Float) (limit : Float) (g g′ : ℕ) (t t′ : Tables) (fs : List Formula)
     → worked A B limit g t (f ∷ fs) ≡ solved t′ g′
-    → ((v : Float) → value A B limit t f ≡ number v → worked A B limit (g + vanishedBy t f) (closed t tb v) fs ≡ solved t′ g′ → P) → P
+    → ((v : Float) → value A B limit t f ≡ number v → worked A B limit (g + vanishedBy t f) (closed t tb k v) fs ≡ solved t′ g′ → P) → P
 worked-solved to P A B limit g g′ t t′ fs e go = onward-solved P _ _ _ _ t′ g′ (sym (worked-cons to A B limit g t fs) ∙ e) go
 
 module _ {N : ℕ} {L : Plan} {A B : List Float} {limit : Float} (given : Given N L A B limit) where
@@ -90,7 +90,7 @@ module _ {N : ℕ} {L : Plan} {A B : List Float} {limit : Float} (given : Given 
   reads = record { a = reads-good A (given .valuesA) (given .finiteA); b = reads-good B (given .valuesB) (given .finiteB); limited = given .limited }
 
   place-sound : {n : ℕ} {t : Tables} (i j : ℕ) → Inside N i j → suc n ≡ label N i j → Sound N L n t
-      → (v : Float) → value A B limit t (denseOf N L i j) ≡ number v → Sound N L (suc n) (closed t C v)
+      → (v : Float) → value A B limit t (denseOf N L i j) ≡ number v → Sound N L (suc n) (closed t C (label N i j) v)
   place-sound i j inside turn s v e = sound-c s i j inside turn (place-entered reads s i j inside (sym turn) v e)
 
   -- dense Crout's tables stay sound to the end
@@ -102,20 +102,20 @@ module _ {N : ℕ} {L : Plan} {A B : List Float} {limit : Float} (given : Given 
   sound-end {g′ = g′} {t = t} {t′} g (left-out i j inside turn h rest) s e =
       worked-solved (place-targets N L (label N) _ i j) _ A B limit g g′ t t′ _ e (λ v q r. sound-end _ rest (place-sound i j inside turn s v q) r)
   sound-end {g′ = g′} {t = t} {t′} g (into-y h p rest) s e =
-      worked-solved (forward-targets N L (label N) _ _) _ A B limit g g′ t t′ _ e (λ v q r. sound-end _ rest (sound-y s (number-good reads s _ q)) r)
+      worked-solved (forward-targets N L (label N) _ _) _ A B limit g g′ t t′ _ e (λ v q r. sound-end _ rest (sound-y s (number-good reads s _ q) _) r)
   sound-end {g′ = g′} {t = t} {t′} g (into-x i l p rest) s e =
-      worked-solved (backward-targets N L (label N) _ i) _ A B limit g g′ t t′ _ e (λ v q r. sound-end _ rest (sound-x s (number-good reads s _ q)) r)
+      worked-solved (backward-targets N L (label N) _ i) _ A B limit g g′ t t′ _ e (λ v q r. sound-end _ rest (sound-x s (number-good reads s _ q) _) r)
 
   -- both sides have the same first answer and go on alike
   both : {d r : Formula} {tb : Table} {k k′ : ℕ} → Targets d tb k → Targets r tb k′ → (g : ℕ) (t u : Tables) (ds rs : List Formula)
       → value A B limit u r ≡ value A B limit t d → vanishedBy u r ≡ vanishedBy t d
       → ((n : ℕ) → refused n tb k′ ≡ squeezed N L (refused n tb k))
       → ((v : Float) → value A B limit t d ≡ number v
-      → worked A B limit (g + vanishedBy t d) (closed u tb v) rs ≡ squeezed N L (worked A B limit (g + vanishedBy t d) (closed t tb v) ds))
+      → worked A B limit (g + vanishedBy t d) (closed u tb k′ v) rs ≡ squeezed N L (worked A B limit (g + vanishedBy t d) (closed t tb k v) ds))
       → worked A B limit g u (r ∷ rs) ≡ squeezed N L (worked A B limit g t (d ∷ ds))
   both {tb = tb} {k} {k′} to to′ g t u ds rs e w ends go =
       worked-cons to′ A B limit g u rs
-      ∙ ap₂ (λ a n. onward a tb k′ (λ v. worked A B limit (g + n) (closed u tb v) rs)) e w
+      ∙ ap₂ (λ a n. onward a tb k′ (λ v. worked A B limit (g + n) (closed u tb k′ v) rs)) e w
       ∙ onward-same N L _ tb k k′ _ _ ends go
       ∙ ap (squeezed N L) (sym (worked-cons to A B limit g t ds))
 
@@ -155,12 +155,12 @@ module _ {N : ℕ} {L : Plan} {A B : List Float} {limit : Float} (given : Given 
         both (forward-targets N L (label N) _ _) (forward-targets N L (slot N L) _ _) g t (shrunk N L t) _ _
         (forward-same reads s (pivot-held N L pivots) _ (omega arith) h) (forward-vanished s _ (omega arith) h)
         (λ r. refl)
-        (λ v q. rw (← shrunk-y N L t v) (reduction _ rest (sound-y s (number-good reads s _ q))))
+        (λ v q. rw (← shrunk-y N L t _ v) (reduction _ rest (sound-y s (number-good reads s _ q) _)))
     reduction {t = t} g (into-x i l p rest) s =
         both (backward-targets N L (label N) _ i) (backward-targets N L (slot N L) _ i) g t (shrunk N L t) _ _
         (backward-same reads s (pivot-held N L pivots) i l (omega arith)) (backward-vanished s i l (omega arith))
         (λ r. refl)
-        (λ v q. rw (← shrunk-x N L t v) (reduction _ rest (sound-x s (number-good reads s _ q))))
+        (λ v q. rw (← shrunk-x N L t _ v) (reduction _ rest (sound-x s (number-good reads s _ q) _)))
 
 -- The headlines: the reduced formulas end as dense Crout does;
 pub reduced-is-dense : {N : ℕ} {L : Plan} {A B : List Float} {limit : Float} → Accepted N L A B limit

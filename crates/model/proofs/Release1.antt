@@ -1,45 +1,55 @@
--- The runner of `specs/` is release 1's: for every input, and with limit +0, it checks, runs, answers and leaves as `specs/Release1`, here R, says,
--- the count of products that vanished left out. And what a program that release 1 accepts may count on.
-use Prim.Native.Nat.{ℕ, zero, suc}
-use mathlib.Core.Path.{_≡_, refl, sym, ap, ap₂, _∙_}
-use mathlib.Core.Bool.{Bool, true, false, cond, true≢false}
-use mathlib.Core.List.{List, [], _∷_, List·Memᴰ·head, List·Memᴰ·tail}
-use lib.Dec.{eqb}
-use lib.ListN.{length}
-use borrow.Author.Tests.{eq-eqb}
+-- Release 1's programs today: every row of words that `specs/Release1`, here R, accepts passes today's checks, and its run with limit +0 ends as
+-- release 1's did, the products that vanished left out.
+use Prim.Native.Nat.{ℕ, zero, suc, _+_, _-_, _*_, _/_, _%_, _≤_, max}
+use native.Mathlib.Omega.{arith}
+use mathlib.Core.Path.{_≡_, refl, sym, ap, ap₂, subst, _∙_}
+use mathlib.Core.Bool.{Bool, true, false, cond, _&&_, true≢false}
+use mathlib.Core.List.{List, [], _∷_}
+use borrow.Author.Tests.{ltb-true, le-leb, leb-true, eqb-true}
+use lib.Dec.{eqb, leb, ltb}
+use lib.ListN.{length, length-append}
 use lib.Ieee.{Float, nan, inf, fin, le, lt, eq}
 use Rattle.model.specs.Release1 as R
+use Rattle.model.specs.Label.{within}
 use Rattle.model.specs.Arith.{plusZero, Answer, number, overflow, zeroDivisor, clean, settled, isZero, isFinite, isLimit, next}
-use Rattle.model.specs.Arith.{product, difference, quotient}
+use Rattle.model.specs.Arith.{product, difference, quotient, vanishes}
 use Rattle.model.specs.Formula.{Table, C, Y, X, numberOf, Tables, entry, closed, starting, less}
-use Rattle.model.specs.Label.{isOrder}
-use Rattle.model.specs.Fill.{Plan, missing}
-use Rattle.model.specs.Program.{rec, compiled}
-use Rattle.model.specs.Compile.{judged, good}
+use Rattle.model.specs.Program.{rec}
 use Rattle.model.specs.Check.{word, nextOf, Chain, whole, broken, before, chainAfter, chain, Open, idle, busy, Progress, Verdict, fine, refusal}
 use Rattle.model.specs.Check.{Kind, opens, subtracts, divides, closes, closesPivot, none, kindOf}
-use Rattle.model.specs.Check.{formed, inOrder, inTurn, counted, onward, isIdle, complete, checkLinks, check}
-use Rattle.model.specs.Run.{State, Stepped, going, stop, closing, settledStep, step, Outcome, solution, stopped, refusedBy, fresh, follow, followed}
-use Rattle.model.specs.Run.{notFinite, checkValues, ran, Reply, solves, stops, refuses, reply, leaves}
-use Rattle.model.proofs.Lists.{Each}
+use Rattle.model.specs.Check.{formed, inOrder, inTurn, opensAt, counted, onward, isIdle, complete, checkLinks, check}
+use Rattle.model.specs.Run.{State, Stepped, going, stop, subtracted, dividedBy, closing, settledStep, step, Followed, halted, follow, followed, fresh}
+use Rattle.model.specs.Run.{Outcome, solution, stopped, refusedBy, notFinite, checkValues, ran, Reply, solves, stops, refuses, reply, leaves}
+use Rattle.model.proofs.Within.{within-range, range-within}
 use Rattle.model.proofs.Arith.{small-zero}
-use Rattle.model.proofs.Runs.{ran-is, ranBy, gated, lengthsRight}
+use Rattle.model.proofs.Put.{put-end}
+use Rattle.model.proofs.Runs.{gated, ran-is, ranBy, lengthsRight}
 use Rattle.model.proofs.Following.{ended, follows}
-use Rattle.model.proofs.Checked.{program-fine}
+use Rattle.model.proofs.Passing.{both, passed-fine}
 
--- ---- release 1's values as those of `specs/`
+-- ---- release 1's values as today's, and today's endings as release 1's
 
 abbrev pub tableNow : R.Table → Table
 tableNow R.C = C
 tableNow R.Y = Y
 tableNow R.X = X
 
-abbrev chainNow : R.Chain → Chain
+abbrev pub tableThen : Table → R.Table
+tableThen C = R.C
+tableThen Y = R.Y
+tableThen X = R.X
+
+then-now : (t : R.Table) → tableThen (tableNow t) ≡ t
+then-now R.C = refl
+then-now R.Y = refl
+then-now R.X = refl
+
+abbrev pub chainNow : R.Chain → Chain
 chainNow (R.link index k p q rest) = before (record { index = index; at = rec k p q }) (chainNow rest)
 chainNow R.whole = ended whole
 chainNow (R.broken k) = ended (broken k)
 
-abbrev kindNow : R.Kind → Kind
+abbrev pub kindNow : R.Kind → Kind
 kindNow (R.opens t) = opens (tableNow t)
 kindNow (R.subtracts t) = subtracts (tableNow t)
 kindNow R.divides = divides
@@ -47,42 +57,55 @@ kindNow R.closes = closes
 kindNow R.closesPivot = closesPivot
 kindNow R.none = none
 
-abbrev pub verdictNow : R.Verdict → Verdict
+-- what is open has a number today: in release 1 it followed from the counts
+abbrev pub nextIn : ℕ → ℕ → ℕ → ℕ → R.Table → ℕ
+nextIn N c y x R.C = suc c
+nextIn N c y x R.Y = suc y
+nextIn N c y x R.X = N - x
+
+abbrev pub openNow : ℕ → ℕ → ℕ → ℕ → R.Open → Open
+openNow N c y x R.idle = idle
+openNow N c y x (R.busy t) = busy (tableNow t) (nextIn N c y x t)
+
+abbrev pub progressNow : ℕ → R.Progress → Progress
+progressNow N g = record { target = openNow N (g .c) (g .y) (g .x) (g .target); c = g .c; y = g .y; x = g .x }
+
+abbrev pub begunThen : R.Progress
+begunThen = record { target = R.idle; c = 0; y = 0; x = 0 }
+
+abbrev verdictNow : R.Verdict → Verdict
 verdictNow R.fine = fine
 verdictNow (R.refusal r d) = refusal r d
 
-abbrev openNow : R.Open → Open
-openNow R.idle = idle
-openNow (R.busy t) = busy (tableNow t)
+abbrev tablesNow : R.Tables → Tables
+tablesNow t = record { order = t .order; c = t .c; y = t .y; x = t .x }
 
-abbrev progressNow : R.Progress → Progress
-progressNow g = record { target = openNow (g .target); c = g .c; y = g .y; x = g .x }
+abbrev pub tablesThen : Tables → R.Tables
+tablesThen t = record { order = t .order; c = t .c; y = t .y; x = t .x }
+
+-- with as many products vanished
+abbrev stateNow : ℕ → R.State → State
+stateNow vanished z = record {
+  tables = tablesNow (z .tables);
+  table = tableNow (z .table);
+  target = z .target;
+  running = z .running;
+  products = z .products;
+  quotients = z .quotients;
+  vanished = vanished;
+}
 
 abbrev answerNow : R.Answer Float → Answer
 answerNow (R.gives v) = number v
 answerNow R.overflow = overflow
 answerNow R.zeroDivisor = zeroDivisor
 
--- ---- today's endings as release 1's: the products that vanished are left out
+abbrev steppedNow : ℕ → R.Answer R.State → Stepped
+steppedNow vanished (R.gives z) = going (stateNow vanished z)
+steppedNow vanished R.overflow = stop 16
+steppedNow vanished R.zeroDivisor = stop 17
 
-abbrev pub tableThen : Table → R.Table
-tableThen C = R.C
-tableThen Y = R.Y
-tableThen X = R.X
-
-abbrev pub tablesThen : Tables → R.Tables
-tablesThen t = record { order = t .order; c = t .c; y = t .y; x = t .x }
-
-abbrev stateThen : State → R.State
-stateThen z = record {
-  tables = tablesThen (z .tables);
-  table = tableThen (z .table);
-  target = z .target;
-  running = z .running;
-  products = z .products;
-  quotients = z .quotients;
-}
-
+-- an ending without the products that vanished
 abbrev pub outcomeThen : Outcome → R.Outcome
 outcomeThen (solution t products quotients vanished) = R.solution (tablesThen t) products quotients
 outcomeThen (stopped r index t k) = R.stopped r index (tableThen t) k
@@ -145,88 +168,336 @@ over-frozen acc a = cond-map answerNow (R.isZero a) _ _ ∙ rw (zero-frozen, set
 
 chain-after : (d : ℕ) (W : List ℕ) (k : ℕ) → chainNow (R.chainAfter d W k) ≡ chainAfter d W k
 unfolding R.chainAfter chainAfter
-chain-after zero W k = by (eqb (nextOf W k) 0)
+chain-after zero W k = go (eqb (nextOf W k) 0)
   where
-    by : (none : Bool) → chainNow (cond none R.whole (R.broken k)) ≡ ended (cond none whole (broken k))
-    by true = refl
-    by false = refl
-chain-after (suc d) W k = by (eqb (nextOf W k) 0) refl (follows W k (nextOf W k)) refl (chain-after d W (nextOf W k))
+    go : (none : Bool) → chainNow (cond none R.whole (R.broken k)) ≡ ended (cond none whole (broken k))
+    go true = refl
+    go false = refl
+chain-after (suc d) W k = go (eqb (nextOf W k) 0) refl (follows W k (nextOf W k)) refl (chain-after d W (nextOf W k))
   where
-    by : (none : Bool) → eqb (nextOf W k) 0 ≡ none → (leads : Bool) → follows W k (nextOf W k) ≡ leads
-        → chainNow (R.chainAfter d W (nextOf W k)) ≡ chainAfter d W (nextOf W k)
-        → chainNow (R.chainAfter (suc d) W k) ≡ chainAfter (suc d) W k
-    by true e leads f rest = rw (R.chainAfter, chainAfter, e)
-    by false e true f rest = rw (R.chainAfter, chainAfter, e, f, chainNow, rest)
-    by false e false f rest = rw (R.chainAfter, chainAfter, e, f)
+    go : (none : Bool) → eqb (nextOf W k) 0 ≡ none → (leads : Bool) → follows W k (nextOf W k) ≡ leads
+        → chainNow (R.chainAfter d W (nextOf W k)) ≡ chainAfter d W (nextOf W k) → chainNow (R.chainAfter (suc d) W k) ≡ chainAfter (suc d) W k
+    go true e leads f rest = rw (R.chainAfter, chainAfter, e)
+    go false e true f rest = rw (R.chainAfter, chainAfter, e, f, chainNow, rest)
+    go false e false f rest = rw (R.chainAfter, chainAfter, e, f)
 
 pub chain-frozen : (W : List ℕ) → chainNow (R.chain W) ≡ chain W
 unfolding R.chain chain
 chain-frozen W = chain-after _ W 0
 
--- ---- the checks
+-- ---- the checks: what passes release 1's passes today's
 
-kind-frozen : (k : ℕ) → kindNow (R.kindOf k) ≡ kindOf k
+-- a check that finds nothing
+pub required-passed : (test : Bool) (r d : ℕ) (v : R.Verdict) → R.required test r d v ≡ R.fine → (test ≡ true) × (v ≡ R.fine)
+unfolding R.required
+required-passed true r d v e = (refl, e)
+required-passed false r d v e = let z : _≡_ {A = ℕ} 0 1 = cc in absurd (omega arith)
+
+pub kind-now : (k : ℕ) → kindOf k ≡ kindNow (R.kindOf k)
 unfolding R.kindOf kindOf
-kind-frozen k = simp (cond-map kindNow)
+kind-now k = simp (cond-map kindNow)
 
-formed-frozen : (k : R.Kind) (p q : ℕ) → R.formed k p q ≡ formed (kindNow k) p q
+pub formed-now : (k : R.Kind) (p q : ℕ) → R.formed k p q ≡ formed (kindNow k) p q
 unfolding R.formed formed
-formed-frozen (R.opens R.C) p q = refl
-formed-frozen (R.opens R.Y) p q = refl
-formed-frozen (R.opens R.X) p q = refl
-formed-frozen (R.subtracts t) p q = refl
-formed-frozen R.divides p q = refl
-formed-frozen R.closes p q = refl
-formed-frozen R.closesPivot p q = refl
-formed-frozen R.none p q = refl
+formed-now (R.opens R.C) p q = refl
+formed-now (R.opens R.Y) p q = refl
+formed-now (R.opens R.X) p q = refl
+formed-now (R.subtracts t) p q = refl
+formed-now R.divides p q = refl
+formed-now R.closes p q = refl
+formed-now R.closesPivot p q = refl
+formed-now R.none p q = refl
 
-number-frozen : (t : R.Table) → R.numberOf t ≡ numberOf (tableNow t)
-number-frozen R.C = refl
-number-frozen R.Y = refl
-number-frozen R.X = refl
+number-now : (t : R.Table) → R.numberOf t ≡ numberOf (tableNow t)
+number-now R.C = refl
+number-now R.Y = refl
+number-now R.X = refl
 
-order-frozen : (k : R.Kind) (o : R.Open) → R.inOrder k o ≡ inOrder (kindNow k) (openNow o)
+pub order-now : (N c y x : ℕ) (k : R.Kind) (o : R.Open) → R.inOrder k o ≡ inOrder (kindNow k) (openNow N c y x o)
 unfolding R.inOrder inOrder
-order-frozen (R.opens t) R.idle = refl
-order-frozen (R.opens t) (R.busy u) = refl
-order-frozen (R.subtracts t) R.idle = refl
-order-frozen (R.subtracts t) (R.busy u) = ap₂ eqb (number-frozen t) (number-frozen u)
-order-frozen R.divides R.idle = refl
-order-frozen R.divides (R.busy u) = refl
-order-frozen R.closes R.idle = refl
-order-frozen R.closes (R.busy u) = refl
-order-frozen R.closesPivot R.idle = refl
-order-frozen R.closesPivot (R.busy u) = ap (eqb 1) (number-frozen u)
-order-frozen R.none o = refl
+order-now N c y x (R.opens t) R.idle = refl
+order-now N c y x (R.opens t) (R.busy u) = refl
+order-now N c y x (R.subtracts t) R.idle = refl
+order-now N c y x (R.subtracts t) (R.busy u) = ap₂ eqb (number-now t) (number-now u)
+order-now N c y x R.divides R.idle = refl
+order-now N c y x R.divides (R.busy u) = refl
+order-now N c y x R.closes R.idle = refl
+order-now N c y x R.closes (R.busy u) = refl
+order-now N c y x R.closesPivot R.idle = refl
+order-now N c y x R.closesPivot (R.busy u) = ap (eqb 1) (number-now u)
+order-now N c y x R.none o = refl
 
-turn-frozen : (N n s : ℕ) (k : R.Kind) (p q : ℕ) (g : R.Progress) → R.inTurn N n s k p q g ≡ inTurn N n s (kindNow k) p q (progressNow g)
-unfolding R.inTurn inTurn
-turn-frozen N n s (R.opens R.C) p q g = refl
-turn-frozen N n s (R.opens R.Y) p q g = refl
-turn-frozen N n s (R.opens R.X) p q g = refl
-turn-frozen N n s (R.subtracts R.C) p q g = refl
-turn-frozen N n s (R.subtracts R.Y) p q g = refl
-turn-frozen N n s (R.subtracts R.X) p q g = refl
-turn-frozen N n s R.divides p q g = refl
-turn-frozen N n s R.closes p q g = refl
-turn-frozen N n s R.closesPivot p q g = refl
-turn-frozen N n s R.none p q g = refl
+module _ (N n s : ℕ) where
+  -- an entry of C that was the next one may be opened today
+  turn-now : (k : R.Kind) (p q : ℕ) (g : R.Progress) → R.inTurn N n s k p q g ≡ true → inTurn N n s (kindNow k) p q (progressNow N g) ≡ true
+  unfolding R.inTurn inTurn
+  turn-now (R.opens R.C) p q g e =
+      let operands = both (leb p n) _ e in
+      let target = both (eqb q (suc (g .c))) (leb q s) (operands .1) in
+      let next = eqb-true q (suc (g .c)) (target .0) in
+      rw (operands .0, range-within q s (omega arith) (leb-true q s (target .1)), le-leb q (suc (g .c)) (omega arith))
+  turn-now (R.opens R.Y) p q g e = e
+  turn-now (R.opens R.X) p q g e = e
+  turn-now (R.subtracts R.C) p q g e = e
+  turn-now (R.subtracts R.Y) p q g e = e
+  turn-now (R.subtracts R.X) p q g e = e
+  turn-now R.divides p q g e = e
+  turn-now R.closes p q g e = e
+  turn-now R.closesPivot p q g e = e
+  turn-now R.none p q g e = e
 
-counted-frozen : (o : R.Open) (g : R.Progress) → progressNow (R.counted o g) ≡ counted (openNow o) (progressNow g)
-unfolding R.counted
-counted-frozen R.idle g = refl
-counted-frozen (R.busy R.C) g = refl
-counted-frozen (R.busy R.Y) g = refl
-counted-frozen (R.busy R.X) g = refl
+  -- what an opening record's number was
+  pub next-c : (p q : ℕ) (g : R.Progress) → R.inTurn N n s (R.opens R.C) p q g ≡ true → q ≡ suc (g .c)
+  unfolding R.inTurn
+  next-c p q g e = eqb-true q (suc (g .c)) (both (eqb q (suc (g .c))) (leb q s) (both (leb p n) _ e .1) .0)
 
-onward-frozen : (k : R.Kind) (g : R.Progress) → progressNow (R.onward k g) ≡ onward (kindNow k) (progressNow g)
-unfolding R.onward
-onward-frozen (R.opens t) g = refl
-onward-frozen (R.subtracts t) g = refl
-onward-frozen R.divides g = refl
-onward-frozen R.closes g = counted-frozen (g .target) g
-onward-frozen R.closesPivot g = counted-frozen (g .target) g
-onward-frozen R.none g = refl
+  x-sum : (p q : ℕ) (g : R.Progress) → R.inTurn N n s (R.opens R.X) p q g ≡ true → p + g .x ≡ N
+  unfolding R.inTurn
+  x-sum p q g e = eqb-true (p + g .x) N (both (ltb 0 p) (eqb (p + g .x) N) (both (ltb 0 p && eqb (p + g .x) N) (leb p (g .y)) e .0) .1)
+
+  opened-number : (t : R.Table) (p q : ℕ) (g : R.Progress) → R.inTurn N n s (R.opens t) p q g ≡ true
+      → nextIn N (g .c) (g .y) (g .x) t ≡ opensAt (tableNow t) p q
+  unfolding R.inTurn
+  opened-number R.C p q g e = sym (next-c p q g e)
+  opened-number R.Y p q g e = sym (eqb-true p (suc (g .y)) (both (eqb p (suc (g .y))) (leb p N) e .0))
+  opened-number R.X p q g e = let sum = x-sum p q g e in omega arith
+
+  counted-now : (o : R.Open) (g : R.Progress) → progressNow N (R.counted o g) ≡ counted (openNow N (g .c) (g .y) (g .x) o) (progressNow N g)
+  unfolding R.counted
+  counted-now R.idle g = refl
+  counted-now (R.busy R.C) g =
+      let most : suc (g .c) ≡ max (g .c) (suc (g .c)) = omega arith in
+      ap (λ c. record { target = idle; c = c; y = g .y; x = g .x }) most
+  counted-now (R.busy R.Y) g = refl
+  counted-now (R.busy R.X) g = refl
+
+  pub onward-now : (k : R.Kind) (p q : ℕ) (g : R.Progress) → R.inTurn N n s k p q g ≡ true
+      → progressNow N (R.onward k g) ≡ onward (kindNow k) p q (progressNow N g)
+  unfolding R.onward
+  onward-now (R.opens t) p q g e = ap (λ k. record { target = busy (tableNow t) k; c = g .c; y = g .y; x = g .x }) (opened-number t p q g e)
+  onward-now (R.subtracts t) p q g e = refl
+  onward-now R.divides p q g e = refl
+  onward-now R.closes p q g e = counted-now (g .target) g
+  onward-now R.closesPivot p q g e = counted-now (g .target) g
+  onward-now R.none p q g e = refl
+
+  -- a record of a chain that passes release 1's checks passes today's, and the others do after it
+  pub record LinkFine (index k p q : ℕ) (g : R.Progress) (rest : R.Chain) : Type 0 where
+    pub ten : R.formed (R.kindOf k) p q ≡ true
+    pub eleven : R.inOrder (R.kindOf k) (g .target) ≡ true
+    pub twelve : R.inTurn N n s (R.kindOf k) p q g ≡ true
+    pub later : R.checkChain N n s (R.onward (R.kindOf k) g) rest ≡ R.fine
+
+  pub link-fine : (index k p q : ℕ) (g : R.Progress) (rest : R.Chain) → R.checkChain N n s g (R.link index k p q rest) ≡ R.fine → LinkFine index k p q g rest
+  unfolding R.checkChain
+  link-fine index k p q g rest e =
+      let a = required-passed (R.formed (R.kindOf k) p q) 10 index _ e in
+      let b = required-passed (R.inOrder (R.kindOf k) (g .target)) 11 index _ (a .1) in
+      let c = required-passed (R.inTurn N n s (R.kindOf k) p q g) 12 index _ (b .1) in
+      record { ten = a .0; eleven = b .0; twelve = c .0; later = c .1 }
+
+  pub complete-now : (g : R.Progress) → complete N s (progressNow N g) ≡ R.complete N s g
+  unfolding complete R.complete
+  complete-now g = ap (λ b. b && (eqb (g .c) s && (eqb (g .y) N && eqb (g .x) N))) (idle-now (g .target))
+    where
+      idle-now : (o : R.Open) → isIdle (openNow N (g .c) (g .y) (g .x) o) ≡ R.isIdle o
+      idle-now R.idle = refl
+      idle-now (R.busy t) = refl
+
+  links-now : (g : R.Progress) (c : R.Chain) → R.checkChain N n s g c ≡ R.fine → checkLinks N n s (progressNow N g) (chainNow c .links) (chainNow c .end) ≡ fine
+  unfolding checkLinks R.checkChain
+  links-now g (R.link index k p q rest) e =
+      let f = link-fine index k p q g rest e in
+      let ten = sym (formed-now (R.kindOf k) p q) ∙ f .ten in
+      let eleven = sym (order-now N (g .c) (g .y) (g .x) (R.kindOf k) (g .target)) ∙ f .eleven in
+      let twelve = turn-now (R.kindOf k) p q g (f .twelve) in
+      rw (checkLinks, kind-now k, ten, kind-now k, eleven, kind-now k, twelve, kind-now k, ← onward-now (R.kindOf k) p q g (f .twelve))
+      (links-now (R.onward (R.kindOf k) g) rest (f .later))
+  links-now g R.whole e = rw (complete-now g, required-passed (R.complete N s g) 13 0 R.fine e .0)
+  links-now g (R.broken k) e = let z : _≡_ {A = ℕ} 0 1 = cc in absurd (omega arith)
+
+-- ---- the run
+
+entry-now : (t : R.Tables) (u : R.Table) (k : ℕ) → R.entry t u k ≡ entry (tablesNow t) (tableNow u) k
+unfolding R.entry entry
+entry-now t R.C k = refl
+entry-now t R.Y k = refl
+entry-now t R.X k = refl
+
+-- entry k of table u is the next one that release 1 closes
+Next : R.Tables → R.Table → ℕ → Type 0
+Next t R.C k = k ≡ suc (length (t .c))
+Next t R.Y k = Unit {0}
+Next t R.X k = Unit {0}
+
+-- then it is closed as today
+closed-now : (t : R.Tables) (u : R.Table) (k : ℕ) (v : Float) → Next t u k → closed (tablesNow t) (tableNow u) k v ≡ tablesNow (R.closed t u v)
+unfolding closed R.closed Next
+closed-now t R.C k v e = ap (λ c. record { order = t .order; c = c; y = t .y; x = t .x }) (put-end (t .c) (k - 1) v (omega arith))
+closed-now t R.Y k v e = refl
+closed-now t R.X k v e = refl
+
+OpenAt : R.State → R.Open → Type 0
+OpenAt z R.idle = Unit {0}
+OpenAt z (R.busy u) = (z .table ≡ u) × Next (z .tables) u (z .target)
+
+-- the state of a run where the check's progress is g
+record Reached (z : R.State) (g : R.Progress) : Type 0 where
+  c : length (z .tables .c) ≡ g .c
+  target : OpenAt z (g .target)
+
+closes-busy : (o : R.Open) → R.inOrder R.closes o ≡ true → (u : R.Table) × (o ≡ R.busy u)
+unfolding R.inOrder
+closes-busy R.idle e = absurd (true≢false (sym e))
+closes-busy (R.busy u) e = (u, refl)
+
+pivot-busy : (o : R.Open) → R.inOrder R.closesPivot o ≡ true → (u : R.Table) × (o ≡ R.busy u)
+unfolding R.inOrder
+pivot-busy R.idle e = absurd (true≢false (sym e))
+pivot-busy (R.busy u) e = (u, refl)
+
+module _ {z : R.State} {g : R.Progress} (reached : Reached z g) (u : R.Table) (open-so : g .target ≡ R.busy u) where
+  open-at : (z .table ≡ u) × Next (z .tables) u (z .target)
+  unfolding OpenAt
+  open-at = rw open-so at (reached .target)
+
+  -- closing is what it was
+  taken-now : (vanished : ℕ) → closing (stateNow vanished z) ≡ stateNow vanished (R.taken z)
+  unfolding R.taken
+  taken-now vanished = ap (λ t. record {
+    tables = t;
+    table = tableNow (z .table);
+    target = z .target;
+    running = z .running;
+    products = z .products;
+    quotients = z .quotients;
+    vanished = vanished;
+  }) (closed-now (z .tables) (z .table) (z .target) (z .running) (rw (open-at .0) (open-at .1)))
+
+  taken-reached : Reached (R.taken z) (R.counted (g .target) g)
+  unfolding R.taken R.counted R.closed OpenAt
+  taken-reached = subst (λ o. Reached (R.taken z) (R.counted o g)) (sym open-so) (go u (open-at .0))
+    where
+      go : (u : R.Table) → z .table ≡ u → Reached (R.taken z) (R.counted (R.busy u) g)
+      go R.C e = rw e record { c = rw length-append (omega (arith, reached .c)); target = tt }
+      go R.Y e = rw e record { c = reached .c; target = tt }
+      go R.X e = rw e record { c = reached .c; target = tt }
+
+-- what a state that a step gives is
+gives-is : {z w : R.State} → R.gives z ≡ R.gives w → z ≡ w
+gives-is e = cc
+
+pivot-gives : (small : Bool) {z w : R.State} → cond small R.zeroDivisor (R.gives z) ≡ R.gives w → z ≡ w
+pivot-gives true e = let z : _≡_ {A = ℕ} 0 1 = cc in absurd (omega arith)
+pivot-gives false e = cc
+
+next-gives : (a : R.Answer Float) (f : Float → R.State) {z : R.State} → R.next a (λ v. R.gives (f v)) ≡ R.gives z → (v : Float) × (z ≡ f v)
+unfolding R.next
+next-gives (R.gives v) f e = (v, cc)
+next-gives R.overflow f e = let z : _≡_ {A = ℕ} 0 1 = cc in absurd (omega arith)
+next-gives R.zeroDivisor f e = let z : _≡_ {A = ℕ} 0 1 = cc in absurd (omega arith)
+
+moved-to : {z w : R.State} {g : R.Progress} → z ≡ w → Reached z g → Reached w g
+moved-to {g = g} e r = subst (λ w. Reached w g) e r
+
+module _ {z : R.State} {g : R.Progress} (reached : Reached z g) where
+  opened-reached : (t : R.Table) (k : ℕ) (v : Float) → Next (z .tables) t k
+      → Reached (R.opened z t k v) (record { target = R.busy t; c = g .c; y = g .y; x = g .x })
+  unfolding R.opened OpenAt
+  opened-reached t k v next = record { c = reached .c; target = (refl, next) }
+
+  worked-reached : (v : Float) (products quotients : ℕ) → Reached (R.worked z v products quotients) g
+  unfolding R.worked OpenAt
+  worked-reached v products quotients = record { c = reached .c; target = go (g .target) (reached .target) }
+    where
+      go : (o : R.Open) → OpenAt z o → OpenAt (R.worked z v products quotients) o
+      go R.idle at = at
+      go (R.busy u) at = at
+
+stepped-now : (vanished : ℕ) (a : R.Answer Float) (f : Float → R.State)
+    → settledStep (answerNow a) (λ v. stateNow vanished (f v)) ≡ steppedNow vanished (R.next a (λ v. R.gives (f v)))
+unfolding R.next
+stepped-now vanished (R.gives v) f = refl
+stepped-now vanished R.overflow f = refl
+stepped-now vanished R.zeroDivisor f = refl
+
+module _ (A B : List Float) (N n s : ℕ) where
+  -- one record does what it did, whatever has vanished
+  step-now : (vanished : ℕ) (z : R.State) (g : R.Progress) (k : R.Kind) (p q : ℕ) → Reached z g → R.inOrder k (g .target) ≡ true
+      → (gone : ℕ) × (step A B plusZero (stateNow vanished z) (kindNow k) p q ≡ steppedNow gone (R.step A B z k p q))
+  unfolding R.step R.opened R.worked step starting
+  step-now vanished z g (R.opens R.C) p q r e = (vanished, rw clean-frozen)
+  step-now vanished z g (R.opens R.Y) p q r e = (vanished, rw clean-frozen)
+  step-now vanished z g (R.opens R.X) p q r e = (vanished, rw entry-now)
+  step-now vanished z g (R.subtracts t) p q r e =
+      let a = entry (tablesNow (z .tables)) C p in
+      let b = entry (tablesNow (z .tables)) (tableNow t) q in
+      let less-now : answerNow (R.less (z .running) (R.entry (z .tables) R.C p) (R.entry (z .tables) t q)) ≡ less (z .running) a b =
+      simp (less-frozen, entry-now) in
+      let after = subtracted (stateNow vanished z) (vanishes a b) in
+      (vanished + cond (vanishes a b) 1 0, ap (λ r. settledStep r after) (sym less-now) ∙ stepped-now _ _ _)
+  step-now vanished z g R.divides p q r e =
+      let over-now : answerNow (R.over (z .running) (R.entry (z .tables) R.C p)) ≡ quotient (z .running) (entry (tablesNow (z .tables)) C p) =
+      rw (over-frozen, entry-now) in
+      (vanished, ap (λ r. settledStep r (dividedBy (stateNow vanished z))) (sym over-now) ∙ stepped-now vanished _ _)
+  step-now vanished z g R.closes p q r e = let (u, o) = closes-busy (g .target) e in (vanished, ap going (taken-now r u o vanished))
+  step-now vanished z g R.closesPivot p q r e =
+      let (u, o) = pivot-busy (g .target) e in
+      (vanished, rw (small-zero, zero-frozen, cond-map (steppedNow vanished), taken-now r u o vanished))
+  step-now vanished z g R.none p q r e = (vanished, refl)
+
+  -- and the state is reached where the check goes on
+  step-reached : (z z′ : R.State) (g : R.Progress) (k : R.Kind) (p q : ℕ) → Reached z g → R.inOrder k (g .target) ≡ true → R.inTurn N n s k p q g ≡ true
+      → R.step A B z k p q ≡ R.gives z′ → Reached z′ (R.onward k g)
+  unfolding R.step R.onward Next
+  step-reached z z′ g (R.opens R.C) p q r e f h = let next = next-c N n s p q g f in moved-to (gives-is h) (opened-reached r R.C q _ (omega (arith, r .c)))
+  step-reached z z′ g (R.opens R.Y) p q r e f h = moved-to (gives-is h) (opened-reached r R.Y p _ tt)
+  step-reached z z′ g (R.opens R.X) p q r e f h = moved-to (gives-is h) (opened-reached r R.X p _ tt)
+  step-reached z z′ g (R.subtracts t) p q r e f h = let (v, o) = next-gives _ _ h in moved-to (sym o) (worked-reached r v _ _)
+  step-reached z z′ g R.divides p q r e f h = let (v, o) = next-gives _ _ h in moved-to (sym o) (worked-reached r v _ _)
+  step-reached z z′ g R.closes p q r e f h = let (u, o) = closes-busy (g .target) e in moved-to (gives-is h) (taken-reached r u o)
+  step-reached z z′ g R.closesPivot p q r e f h =
+      let (u, o) = pivot-busy (g .target) e in
+      moved-to (pivot-gives (R.isZero (z .running)) h) (taken-reached r u o)
+  step-reached z z′ g R.none p q r e f h = moved-to (gives-is h) r
+
+  -- so the records of a chain that release 1's check passes do what they did
+  follow-now : (vanished : ℕ) (z : R.State) (g : R.Progress) (c : R.Chain) → Reached z g → R.checkChain N n s g c ≡ R.fine
+      → outcomeThen (followed (follow A B plusZero (stateNow vanished z) (chainNow c .links))) ≡ R.follow A B z c
+  unfolding R.follow follow followed
+  follow-now vanished z g (R.link index k p q rest) r e =
+      let f = link-fine N n s index k p q g rest e in
+      let (gone, now) = step-now vanished z g (R.kindOf k) p q r (f .eleven) in
+      rw (follow, kind-now k, now) (go gone (R.step A B z (R.kindOf k) p q)
+      (λ z′ h. follow-now gone z′ (R.onward (R.kindOf k) g) rest (step-reached z z′ g (R.kindOf k) p q r (f .eleven) (f .twelve) h) (f .later)) refl)
+    where
+      go : (gone : ℕ) (a : R.Answer R.State)
+          → ((z′ : R.State) → R.step A B z (R.kindOf k) p q ≡ R.gives z′
+          → outcomeThen (followed (follow A B plusZero (stateNow gone z′) (chainNow rest .links))) ≡ R.follow A B z′ rest)
+          → R.step A B z (R.kindOf k) p q ≡ a
+          → outcomeThen (followed (elim (steppedNow gone a) as (λ s. Followed) [
+            | going z′ ↦ follow A B plusZero z′ (chainNow rest .links)
+            | stop n ↦ halted n index (tableNow (z .table)) (z .target)
+          ]))
+          ≡ elim a as (λ a. R.Outcome) [
+            | R.gives z′ ↦ R.follow A B z′ rest
+            | R.overflow ↦ R.stopped 16 index (z .table) (z .target)
+            | R.zeroDivisor ↦ R.stopped 17 index (z .table) (z .target)
+          ]
+      go gone (R.gives z′) on h = on z′ h
+      go gone R.overflow on h = ap (λ t. R.stopped 16 index t (z .target)) (then-now (z .table))
+      go gone R.zeroDivisor on h = ap (λ t. R.stopped 17 index t (z .target)) (then-now (z .table))
+  follow-now vanished z g R.whole r e = refl
+  follow-now vanished z g (R.broken k) r e = refl
+
+not-finite-frozen : (k : ℕ) (vs : List Float) → R.notFinite k vs ≡ notFinite k vs
+unfolding R.notFinite notFinite
+not-finite-frozen k [] = refl
+not-finite-frozen k (v ∷ vs) = rw (finite-frozen, not-finite-frozen (suc k) vs)
+
+fresh-reached : (N : ℕ) → Reached (R.fresh N) begunThen
+unfolding OpenAt
+fresh-reached N = record { c = refl; target = tt }
 
 -- what f makes of a check: of the refusal unless the test holds, then of what comes after
 required-frozen : {T : Type 0} (f : R.Verdict → T) {test test′ : Bool} (r d : ℕ) (v : R.Verdict) {w : T} → test ≡ test′ → f v ≡ w
@@ -237,97 +508,6 @@ required-frozen f {test′ = test} r d v {w} same e = rw same (by test)
     by : (b : Bool) → f (cond b v (R.refusal r d)) ≡ elim b [ false ↦ f (R.refusal r d) | true ↦ w ]
     by true = e
     by false = refl
-
-idle-frozen : (o : R.Open) → R.isIdle o ≡ isIdle (openNow o)
-idle-frozen R.idle = refl
-idle-frozen (R.busy t) = refl
-
-end-frozen : (N s : ℕ) (g : R.Progress) → verdictNow (R.required (R.complete N s g) 13 0 R.fine) ≡ cond (complete N s (progressNow g)) fine (refusal 13 0)
-unfolding R.required R.complete complete
-end-frozen N s g = rw (cond-map verdictNow, idle-frozen)
-
-module _ (N n s : ℕ) where
-  links-frozen : (g : R.Progress) (c : R.Chain) → verdictNow (R.checkChain N n s g c) ≡ checkLinks N n s (progressNow g) (chainNow c .links) (chainNow c .end)
-  unfolding R.checkChain checkLinks
-  links-frozen g (R.link index k p q c) =
-      let kind = R.kindOf k in
-      required-frozen verdictNow 10 index _ (rw kind-frozen at (formed-frozen kind p q))
-      (required-frozen verdictNow 11 index _ (rw kind-frozen at (order-frozen kind (g .target)))
-      (required-frozen verdictNow 12 index _ (rw kind-frozen at (turn-frozen N n s kind p q g))
-      (rw (onward-frozen, kind-frozen) at (links-frozen (R.onward kind g) c))))
-  links-frozen g R.whole = end-frozen N s g
-  links-frozen g (R.broken k) = refl
-
--- the check is release 1's
-pub check-frozen : (W : List ℕ) → verdictNow (R.check W) ≡ check W
-unfolding R.check check
-check-frozen W =
-    required-frozen verdictNow 7 0 _ refl (required-frozen verdictNow 8 0 _ refl
-    (rw (← chain-frozen W) (links-frozen (word W 0) (word W 1) (word W 2) _ (R.chain W))))
-
--- ---- the run
-
-entry-frozen : (t : Tables) (u : R.Table) (k : ℕ) → R.entry (tablesThen t) u k ≡ entry t (tableNow u) k
-unfolding R.entry entry
-entry-frozen t R.C k = refl
-entry-frozen t R.Y k = refl
-entry-frozen t R.X k = refl
-
-closed-frozen : (t : Tables) (u : Table) (v : Float) → tablesThen (closed t u v) ≡ R.closed (tablesThen t) (tableThen u) v
-unfolding R.closed closed
-closed-frozen t C v = refl
-closed-frozen t Y v = refl
-closed-frozen t X v = refl
-
-taken-frozen : (z : State) → R.taken (stateThen z) ≡ stateThen (closing z)
-unfolding R.taken
-taken-frozen z = cc (closed-frozen (z .tables) (z .table) (z .running))
-
--- a step of release 1's and one of today's that lead to the same
-data Alike : R.Answer R.State → Stepped → Type 0 where
-  on : (z : State) → Alike (R.gives (stateThen z)) (going z)
-  sixteen : Alike R.overflow (stop 16)
-  seventeen : Alike R.zeroDivisor (stop 17)
-
-settled-alike : (a : R.Answer Float) (f : Float → State) → Alike (R.next a (λ v. R.gives (stateThen (f v)))) (settledStep (answerNow a) f)
-unfolding R.next
-settled-alike (R.gives v) f = on (f v)
-settled-alike R.overflow f = sixteen
-settled-alike R.zeroDivisor f = seventeen
-
-module _ (A B : List Float) where
-  step-frozen : (z : State) (k : R.Kind) (p q : ℕ) → Alike (R.step A B (stateThen z) k p q) (step A B plusZero z (kindNow k) p q)
-  unfolding R.step R.opened R.worked step starting
-  step-frozen z (R.opens R.C) p q = rw clean-frozen (on _)
-  step-frozen z (R.opens R.Y) p q = rw clean-frozen (on _)
-  step-frozen z (R.opens R.X) p q = rw entry-frozen (on _)
-  step-frozen z (R.subtracts t) p q = rw (← less-frozen) (simp entry-frozen (settled-alike _ _))
-  step-frozen z R.divides p q = rw (← over-frozen, entry-frozen) (settled-alike _ _)
-  step-frozen z R.closes p q = rw taken-frozen (on _)
-  step-frozen z R.closesPivot p q = rw (small-zero, ← zero-frozen, taken-frozen) (test (R.isZero (z .running)))
-    where
-      test : (b : Bool) → Alike (cond b R.zeroDivisor (R.gives (stateThen (closing z)))) (cond b (stop 17) (going (closing z)))
-      test true = seventeen
-      test false = on (closing z)
-  step-frozen z R.none p q = on z
-
-  follow-frozen : (z : State) (c : R.Chain) → outcomeThen (followed (follow A B plusZero z (chainNow c .links))) ≡ R.follow A B (stateThen z) c
-  unfolding R.follow follow followed
-  follow-frozen z (R.link index k p q c) = by refl refl (rw kind-frozen at (step-frozen z (R.kindOf k) p q)) (λ z′. follow-frozen z′ c)
-    where
-      by : {a : R.Answer R.State} {s : Stepped} → R.step A B (stateThen z) (R.kindOf k) p q ≡ a → step A B plusZero z (kindOf k) p q ≡ s → Alike a s
-          → ((z′ : State) → outcomeThen (followed (follow A B plusZero z′ (chainNow c .links))) ≡ R.follow A B (stateThen z′) c)
-          → outcomeThen (followed (follow A B plusZero z (chainNow (R.link index k p q c) .links))) ≡ R.follow A B (stateThen z) (R.link index k p q c)
-      by e f (on z′) rest = rw (R.follow, followed, follow, e, f) (rest z′)
-      by e f sixteen rest = rw (R.follow, followed, follow, e, f)
-      by e f seventeen rest = rw (R.follow, followed, follow, e, f)
-  follow-frozen z R.whole = refl
-  follow-frozen z (R.broken k) = refl
-
-not-finite-frozen : (k : ℕ) (vs : List Float) → R.notFinite k vs ≡ notFinite k vs
-unfolding R.notFinite notFinite
-not-finite-frozen k [] = refl
-not-finite-frozen k (v ∷ vs) = rw (finite-frozen, not-finite-frozen (suc k) vs)
 
 -- 15 is release 1's, and 21 refuses nothing where the limit is +0
 abbrev fifteen : List Float → List Float → R.Verdict
@@ -350,98 +530,83 @@ gated-frozen A B true now {past} e = rw (← values-frozen A B) (by (fifteen A B
     by R.fine = e
     by (R.refusal r d) = refl
 
--- with limit +0 the run is release 1's
-pub ran-frozen : (W : List ℕ) (A B : List Float) (lc ly lx : ℕ) → outcomeThen (ran W A B plusZero lc ly lx) ≡ R.ran W A B lc ly lx
-unfolding R.ran R.checkValues ranBy lengthsRight
-ran-frozen W A B lc ly lx = rw (ran-is, ← check-frozen W) (by (R.check W))
-  where
-    now : Outcome
-    now = followed (follow A B plusZero (fresh (word W 0)) (chain W .links))
+-- what the caller is told, without the new numbers
+reply-then : (o : Outcome) → replyThen (reply o) ≡ R.reply (outcomeThen o)
+unfolding reply R.reply
+reply-then (solution t products quotients vanished) = refl
+reply-then (stopped r index C k) = refl
+reply-then (stopped r index Y k) = refl
+reply-then (stopped r index X k) = refl
+reply-then (refusedBy r d) = refl
 
-    past : R.Outcome
-    past = R.follow A B (R.fresh (word W 0)) (R.chain W)
+-- leaves what it left
+leaves-then : (o : Outcome) (t : R.Table) (vs : List Float) → leaves o (tableNow t) vs ≡ R.leaves (outcomeThen o) t vs
+unfolding leaves R.leaves
+leaves-then (solution u p q g) R.C vs = refl
+leaves-then (solution u p q g) R.Y vs = refl
+leaves-then (solution u p q g) R.X vs = refl
+leaves-then (stopped r index u k) t vs = refl
+leaves-then (refusedBy r d) t vs = refl
 
-    ends : outcomeThen now ≡ past
-    ends = rw (← chain-frozen W) (follow-frozen A B (fresh (word W 0)) (R.chain W))
+-- what passes release 1's 7 to 13
+pub record AcceptedThen (W : List ℕ) : Type 0 where
+  pub seven : (ltb 0 (length W) && (eqb (length W % 4) 0 && leb (length W / 4) 100000000)) ≡ true
+  pub eight : (R.within (R.word W 0) 600 && (leb (R.word W 1) (R.word W 0 * R.word W 0)
+      && (leb (R.word W 0) (R.word W 2) && leb (R.word W 2) (R.word W 0 * R.word W 0)))) ≡ true
+  pub along : R.checkChain (R.word W 0) (R.word W 1) (R.word W 2) begunThen (R.chain W) ≡ R.fine
 
-    by : (v : R.Verdict)
-        → outcomeThen (ranBy W A B plusZero lc ly lx (verdictNow v)) ≡ R.after v (R.after (R.checkValues (word W 0) (word W 1) (word W 2) A B lc ly lx) past)
-    by R.fine = gated-frozen A B (lengthsRight (word W 0) (word W 1) (word W 2) (length A) (length B) lc ly lx) now ends
-    by (R.refusal r d) = refl
+pub accepted : (W : List ℕ) → R.check W ≡ R.fine → AcceptedThen W
+unfolding R.check
+accepted W e =
+    let a = required-passed (ltb 0 (length W) && (eqb (length W % 4) 0 && leb (length W / 4) 100000000)) 7 0 _ e in
+    let b = required-passed _ 8 0 _ (a .1) in
+    record { seven = a .0; eight = b .0; along = b .1 }
 
--- and so are what the caller is told and what is left
-pub reply-frozen : (o : Outcome) → replyThen (reply o) ≡ R.reply (outcomeThen o)
-unfolding R.reply reply
-reply-frozen (solution t products quotients vanished) = refl
-reply-frozen (stopped r index C k) = refl
-reply-frozen (stopped r index Y k) = refl
-reply-frozen (stopped r index X k) = refl
-reply-frozen (refusedBy r d) = refl
+module _ (W : List ℕ) (accepts : R.check W ≡ R.fine) where
+  passed : AcceptedThen W
+  passed = accepted W accepts
 
-pub leaves-frozen : (o : Outcome) (t : R.Table) (vs : List Float) → leaves o (tableNow t) vs ≡ R.leaves (outcomeThen o) t vs
-unfolding R.leaves leaves
-leaves-frozen (solution u p q g) R.C vs = refl
-leaves-frozen (solution u p q g) R.Y vs = refl
-leaves-frozen (solution u p q g) R.X vs = refl
-leaves-frozen (stopped r index u k) t vs = refl
-leaves-frozen (refusedBy r d) t vs = refl
+  -- The headline for the checks: today's pass it.
+  pub check-kept : check W ≡ fine
+  check-kept =
+      let some = both (ltb 0 (length W)) _ (passed .seven) in
+      let size = both (eqb (length W % 4) 0) (leb (length W / 4) 100000000) (some .1) in
+      let order = both (within (word W 0) 600) _ (passed .eight) in
+      let labels = both (leb (word W 1) (word W 0 * word W 0)) _ (order .1) in
+      let slots = both (leb (word W 0) (word W 2)) (leb (word W 2) (word W 0 * word W 0)) (labels .1) in
+      let some-slots : 1 ≤ word W 2 = omega (arith, within-range (word W 0) 600 (order .0), leb-true (word W 0) (word W 2) (slots .0)) in
+      passed-fine W (record {
+        some = ltb-true 0 (length W) (some .0);
+        fours = eqb-true (length W % 4) 0 (size .0);
+        few = leb-true (length W / 4) 100000000 (size .1);
+        head = rw (order .0, labels .0, le-leb 1 (word W 2) some-slots, slots .1);
+        links = rw (← chain-frozen W) (links-now (word W 0) (word W 1) (word W 2) _ (R.chain W) (passed .along));
+      })
 
--- ---- what a program that release 1 accepts may count on
+  module _ (A B : List Float) (lc ly lx : ℕ) where
+    abbrev alongThen : R.Outcome
+    alongThen = R.follow A B (R.fresh (word W 0)) (R.chain W)
 
--- a run that went along its records: it ends with a solution, or in 16 or 17
-pub data Ends : R.Outcome → Type 0 where
-  solved : (t : R.Tables) (products quotients : ℕ) → Ends (R.solution t products quotients)
-  overflowed : (index : ℕ) (t : R.Table) (k : ℕ) → Ends (R.stopped 16 index t k)
-  divided : (index : ℕ) (t : R.Table) (k : ℕ) → Ends (R.stopped 17 index t k)
+    abbrev alongNow : Outcome
+    alongNow = followed (follow A B plusZero (fresh (word W 0)) (chain W .links))
 
--- lengths and values as record 0 of W asks
-pub record Fitting (W : List ℕ) (A B : List Float) (lc ly lx : ℕ) : Type 0 where
-  pub lengthA : length A ≡ R.word W 1
-  pub lengthB : length B ≡ R.word W 0
-  pub lengthC : lc ≡ R.word W 2
-  pub lengthY : ly ≡ R.word W 0
-  pub lengthX : lx ≡ R.word W 0
-  pub finiteA : Each (λ v. R.isFinite v ≡ true) A
-  pub finiteB : Each (λ v. R.isFinite v ≡ true) B
+    along-kept : outcomeThen alongNow ≡ alongThen
+    along-kept =
+        rw (← chain-frozen W) (follow-now A B (word W 0) (word W 1) (word W 2) 0 (R.fresh (word W 0)) _ (R.chain W) (fresh-reached (word W 0)) (passed .along))
 
-follow-ends : (A B : List Float) (z : R.State) (c : R.Chain) → Ends (R.follow A B z c)
-unfolding R.follow
-follow-ends A B z (R.link index k p q c) = by (R.step A B z (R.kindOf k) p q) refl (λ z′. follow-ends A B z′ c)
-  where
-    by : (a : R.Answer R.State) → R.step A B z (R.kindOf k) p q ≡ a → ((z′ : R.State) → Ends (R.follow A B z′ c)) → Ends (R.follow A B z (R.link index k p q c))
-    by (R.gives z′) e rest = rw (R.follow, e) (rest z′)
-    by R.overflow e rest = rw (R.follow, e) (overflowed index (z .table) (z .target))
-    by R.zeroDivisor e rest = rw (R.follow, e) (divided index (z .table) (z .target))
-follow-ends A B z R.whole = solved (z .tables) (z .products) (z .quotients)
-follow-ends A B z (R.broken k) = solved (z .tables) (z .products) (z .quotients)
+    -- The headline for the run: with limit +0 it ends as it did,
+    pub ran-kept : outcomeThen (ran W A B plusZero lc ly lx) ≡ R.ran W A B lc ly lx
+    unfolding R.ran R.checkValues ranBy lengthsRight
+    ran-kept =
+        ap outcomeThen (ran-is W A B plusZero lc ly lx ∙ ap (ranBy W A B plusZero lc ly lx) check-kept)
+        ∙ gated-frozen A B (lengthsRight (word W 0) (word W 1) (word W 2) (length A) (length B) lc ly lx) alongNow along-kept
+        ∙ ap (λ v. R.after v (R.after (R.checkValues (word W 0) (word W 1) (word W 2) A B lc ly lx) alongThen)) (sym accepts)
 
-all-finite : (k : ℕ) (vs : List Float) → Each (λ v. R.isFinite v ≡ true) vs → R.notFinite k vs ≡ 0
-unfolding R.notFinite
-all-finite k [] each = refl
-all-finite k (v ∷ vs) each = rw (each v (List·Memᴰ·head refl)) (all-finite (suc k) vs (λ u m. each u (List·Memᴰ·tail m)))
+    -- tells the caller what it told,
+    pub reply-kept : replyThen (reply (ran W A B plusZero lc ly lx)) ≡ R.reply (R.ran W A B lc ly lx)
+    reply-kept = reply-then (ran W A B plusZero lc ly lx) ∙ ap R.reply ran-kept
 
--- A program that release 1's check passes, with the right lengths and finite values, ends with a solution or in 16 or 17, and in nothing else.
-pub accepted-means : (W : List ℕ) (A B : List Float) (lc ly lx : ℕ) → R.check W ≡ R.fine → Fitting W A B lc ly lx → Ends (R.ran W A B lc ly lx)
-unfolding R.ran R.checkValues R.required
-accepted-means W A B lc ly lx passed f = rw (
-  passed,
-  eq-eqb (length A) (R.word W 1) (f .lengthA),
-  eq-eqb (length B) (R.word W 0) (f .lengthB),
-  eq-eqb lc (R.word W 2) (f .lengthC),
-  eq-eqb ly (R.word W 0) (f .lengthY),
-  eq-eqb lx (R.word W 0) (f .lengthX),
-  all-finite 1 A (f .finiteA),
-  all-finite 1 B (f .finiteB),
-) (follow-ends A B (R.fresh (R.word W 0)) (R.chain W))
-
--- The programs that the compiler writes are accepted by release 1.
-pub program-accepted : (N : ℕ) (L : Plan) → isOrder N ≡ true → judged N 0 1 L ≡ good → missing N L ≡ 0 → R.check (compiled N L) ≡ R.fine
-program-accepted N L order labels pivots = passed (R.check (compiled N L)) (check-frozen (compiled N L) ∙ program-fine N L order labels pivots)
-  where
-    passes : Verdict → Bool
-    passes fine = true
-    passes (refusal r d) = false
-
-    passed : (v : R.Verdict) → verdictNow v ≡ fine → v ≡ R.fine
-    passed R.fine e = refl
-    passed (R.refusal r d) e = absurd (true≢false (sym (ap passes e)))
+    -- and leaves what it left.
+    pub leaves-kept : (t : R.Table) (vs : List Float) → leaves (ran W A B plusZero lc ly lx) (tableNow t) vs ≡ R.leaves (R.ran W A B lc ly lx) t vs
+    leaves-kept t vs =
+        leaves-then (ran W A B plusZero lc ly lx) t vs ∙ ap (λ o. R.leaves o t vs) ran-kept

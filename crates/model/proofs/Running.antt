@@ -36,7 +36,7 @@ module _ (A B : List Float) (limit : Float) (W : List ℕ) where
     pub room : OpenRoom (word W 0) (word W 2) target z
     pub order : inOrder t target ≡ true
     pub turn : inTurn (word W 0) (word W 1) (word W 2) t p q (progressIn target z) ≡ true
-    pub checks : checkLinks (word W 0) (word W 1) (word W 2) (onward t (progressIn target z)) (chainFrom W k .links) (chainFrom W k .end) ≡ fine
+    pub checks : checkLinks (word W 0) (word W 1) (word W 2) (onward t p q (progressIn target z)) (chainFrom W k .links) (chainFrom W k .end) ≡ fine
     pub leads : follow A B limit (fresh (word W 0)) (chain W .links) ≡ continued A B limit W z k (step A B limit z t p q)
     pub made : z .products + z .quotients < k
     pub gone : z .vanished ≤ z .products
@@ -108,9 +108,9 @@ module _ {A B : List Float} {limit : Float} {W : List ℕ} where
     pub run-goes-on : (z′ : State) → going z′ ≡ step A B limit z t p q → RunAfter A B limit W z′ k
     run-goes-on z′ e =
         let steps = after-step A B limit (word W 0) (word W 1) (word W 2) z p q (before .target) t (before .order) (before .turn) (before .room) in
-        let after = subst (AfterStep (word W 0) (word W 2) (before .target) z t) (sym e) steps in
+        let after = subst (AfterStep (word W 0) (word W 2) (before .target) z t p q) (sym e) steps in
         record {
-          target = onward t (progressIn (before .target) z) .target;
+          target = onward t p q (progressIn (before .target) z) .target;
           room = after .room;
           checks = rw (after .progress) (before .checks);
           leads = before .leads ∙ ap (continued A B limit W z k) (sym e);

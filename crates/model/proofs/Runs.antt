@@ -129,3 +129,8 @@ module _ (W : List ℕ) (A B : List Float) (limit : Float) (c y x : ℕ) where
       (followed (follow A B limit (fresh (word W 0)) (chain W .links)))
   unfolding ranBy
   ran-fine e = ran-is ∙ ap ranBy e
+
+  -- and where nothing is refused, what the records give
+  pub runs-open : check W ≡ fine → lengthsRight (word W 0) (word W 1) (word W 2) (length A) (length B) c y x ≡ true → checkValues A B limit ≡ fine
+      → ran W A B limit c y x ≡ followed (follow A B limit (fresh (word W 0)) (chain W .links))
+  runs-open e l r = ran-fine e ∙ gated-open _ _ _ _ _ l r

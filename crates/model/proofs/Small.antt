@@ -10,7 +10,7 @@ use lib.ListN.{length}
 use lib.Ieee.{Float}
 use borrow.Author.Tests.{ltb-true, eqb-false}
 use Rattle.model.specs.Label.{isOrder, within}
-use Rattle.model.specs.Fill.{Plan, missing, recordCount, slots, productCount}
+use Rattle.model.specs.Fill.{Plan, missing, productCount, recordCount}
 use Rattle.model.specs.Check as Check
 use Rattle.model.specs.Check.{Link, Kind, opens, subtracts, divides, closes, closesPivot, none, Progress, Verdict, fine}
 use Rattle.model.specs.Check.{End, whole, broken, Chain, chainAfter, chain, nextOf, recordAt, before}
@@ -21,7 +21,7 @@ use Rattle.model.specs.Run.{State, refusedBy, fresh, Stepped, going, sto
 use Rattle.model.specs.Run.{Followed, through, halted, follow, followed, notFinite, checkValues, ran}
 use Rattle.model.specs.Run.{Reply, solves, stops, refuses, reply}
 use Rattle.model.specs.Compile as Compile
-use Rattle.model.specs.Compile.{Compiled, written, Labels, good, bad, judged, compiles}
+use Rattle.model.specs.Compile.{Compiled, written, Labels, good, bad, judged, Compiler, plain, compact, wanted, slotsBy, compilesBy, compiles}
 use Rattle.model.specs.Program.{compiled}
 use Rattle.model.specs.Solve.{replied}
 use Rattle.model.specs.File as File
@@ -29,7 +29,7 @@ use Rattle.model.specs.File.{Filed, filed, writes, reads, wordsOf, check
 use Rattle.model.proofs.Bytes.{words-length}
 use Rattle.model.proofs.Within.{within-range}
 use Rattle.model.proofs.Plans.{missing-free}
-use Rattle.model.proofs.Compiles.{compilesBy, compiles-is, compiles-success}
+use Rattle.model.proofs.Compiles.{orderedBy, admittedBy, answeredBy, compiles-is, compiles-success}
 use Rattle.model.proofs.Passing.{refused-fine}
 use Rattle.model.proofs.Runs.{gated-each, values-each, lengthsRight, ranBy, ran-is}
 use Rattle.model.proofs.Counts.{words-counted}
@@ -93,10 +93,10 @@ links-small b N n s g [] (broken k) ls e = omega arith
 links-small b N n s g (l ∷ ls) end (h, hs) e =
     step (formed (kindOf (l .at .kind)) (l .at .p) (l .at .q)) (inOrder (kindOf (l .at .kind)) (g .target))
     (inTurn N n s (kindOf (l .at .kind)) (l .at .p) (l .at .q) g)
-    (links-small b N n s (onward (kindOf (l .at .kind)) g) ls end hs e)
+    (links-small b N n s (onward (kindOf (l .at .kind)) (l .at .p) (l .at .q) g) ls end hs e)
   where
     rest : Verdict
-    rest = checkLinks N n s (onward (kindOf (l .at .kind)) g) ls end
+    rest = checkLinks N n s (onward (kindOf (l .at .kind)) (l .at .p) (l .at .q) g) ls end
 
     step : (f o t : Bool) → SmallVerdict b rest → SmallVerdict b (elim f as (λ b. Verdict) [
       | false ↦ Check.refusal 10 (l .index)
@@ -115,7 +115,7 @@ pub check-small : (W : List ℕ) → SmallVerdict (length W / 4) (check W)
 unfolding check chain
 check-small W =
     step (ltb 0 (length W) && (eqb (length W % 4) 0 && leb (length W / 4) 100000000))
-    (isOrder (word W 0) && (leb (word W 1) (word W 0 * word W 0) && (leb (word W 0) (word W 2) && leb (word W 2) (word W 0 * word W 0))))
+    (isOrder (word W 0) && (leb (word W 1) (word W 0 * word W 0) && (leb 1 (word W 2) && leb (word W 2) (word W 0 * word W 0))))
     (chain-up-to (length W / 4) W 0 (omega arith))
   where
     linked : Chain
@@ -192,19 +192,24 @@ judged-small N before k (x ∷ L) r d e = step (within x (N * N)) (ltb before x)
     step true false rest e = let r : 4 ≡ r = cc in let d : k ≡ d = cc in omega arith
     step true true rest e = omega (arith, rest e)
 
-pub compiles-small : (N : ℕ) (L : Plan) (work words : ℕ) → SmallCompiled (100000000 + length L) (compiles N L work words)
-unfolding compilesBy
-compiles-small N L work words =
-    rw (compiles-is N L work words)
-    (step (isOrder N) (leb (N * N) work) (judged N 0 1 L) (eqb (missing N L) 0) (leb (4 * recordCount N L) words) refl refl refl)
+wanted-small : (c : Compiler) (N : ℕ) → N ≤ 600 → wanted c N ≤ 100000000
+wanted-small plain N n = omega (arith, mul-le-mul {n₂ = 600} {m₂ = 600} n n)
+wanted-small compact N n = omega (arith, mul-le-mul {n₂ = 600} {m₂ = 600} n n)
+
+pub compiles-small : (c : Compiler) (N : ℕ) (L : Plan) (work words : ℕ) → SmallCompiled (100000000 + length L) (compilesBy c N L work words)
+unfolding orderedBy admittedBy answeredBy
+compiles-small c N L work words =
+    rw (compiles-is c N L work words)
+    (step (isOrder N) (leb (wanted c N) work) (judged N 0 1 L) (eqb (missing N L) 0) (leb (4 * recordCount N L) words) refl refl refl)
   where
     done : Compiled
-    done = written (slots N L) (productCount N L) (recordCount N L)
+    done = written (slotsBy c N L) (productCount N L) (recordCount N L)
 
     step : (order room : Bool) (labels : Labels) (pivots fits : Bool) → isOrder N ≡ order → judged N 0 1 L ≡ labels → eqb (missing N L) 0 ≡ pivots
-        → SmallCompiled (100000000 + length L) (compilesBy order room labels pivots fits (N * N) (missing N L) (recordCount N L) done)
+        → SmallCompiled (100000000 + length L)
+        (answeredBy (admittedBy (orderedBy order room labels (wanted c N)) pivots (missing N L)) fits (recordCount N L) done)
     step false room labels pivots fits o j v = omega arith
-    step true false labels pivots fits o j v = let n = within-range N 600 o .1 in omega (arith, mul-le-mul {n₂ = 600} {m₂ = 600} n n)
+    step true false labels pivots fits o j v = omega (arith, wanted-small c N (within-range N 600 o .1))
     step true true (bad r d) pivots fits o j v = omega (arith, judged-small N 0 1 L r d j)
     step true true good false fits o j v = omega (arith, within-range N 600 o .1, missing-free N L (eqb-false (missing N L) 0 v) .high)
     step true true good true false o j v = omega (arith, records-at-most N L (within-range N 600 o .1))
@@ -315,7 +320,7 @@ ran-small W A B limit c y x = rw (ran-is W A B limit c y x) (go (check W) (check
 pub replied-small : (N : ℕ) (L : Plan) (A B : List Float) (limit : Float) (work words c y x : ℕ)
     → SmallReply (400000001 + length L + length A + length B) (replied N L A B limit work words c y x)
 unfolding replied
-replied-small N L A B limit work words c y x = go (compiles N L work words) refl (compiles-small N L work words)
+replied-small N L A B limit work words c y x = go (compiles N L work words) refl (compiles-small plain N L work words)
   where
     wider : (r : Reply) (k : ℕ) → k ≤ 400000000 → SmallReply (1 + k + length A + length B) r → SmallReply (400000001 + length L + length A + length B) r
     wider (solves p q g) k h s = tt
@@ -327,6 +332,6 @@ replied-small N L A B limit work words c y x = go (compiles N L work words) refl
         (elim v as (λ v. Reply) [ Compile.refusal r d ↦ refuses r d | written s p r ↦ reply (ran (compiled N L) A B limit c y x) ])
     go (Compile.refusal r d) e small = omega arith
     go (written s p r) e small =
-        let k = compiles-success N L work words s p r e in
+        let k = compiles-success plain N L work words s p r e in
         let few : length (compiled N L) ≤ 400000000 = omega (arith, words-counted N L (k .pivots), records-at-most N L (within-range N 600 (k .order) .1)) in
         wider (reply (ran (compiled N L) A B limit c y x)) (length (compiled N L)) few (ran-small (compiled N L) A B limit c y x)

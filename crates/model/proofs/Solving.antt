@@ -10,7 +10,7 @@ use lib.Ieee.{Float}
 use Rattle.model.specs.Fill.{Plan, slots}
 use Rattle.model.specs.Formula.{Table, C, Y, X}
 use Rattle.model.specs.Crout.{dense}
-use Rattle.model.specs.Compile.{Compiled, written, refusal, compiles, wordsAfter}
+use Rattle.model.specs.Compile.{Compiled, written, refusal, plain, compiles, wordsAfterBy, wordsAfter}
 use Rattle.model.specs.Program.{compiled}
 use Rattle.model.specs.Check.{fine}
 use Rattle.model.specs.Run.{Outcome, solution, stopped, refusedBy, checkValues, ran, Reply, refuses, reply, leaves}
@@ -61,7 +61,7 @@ module _ (N : ℕ) (L : Plan) (A B : List Float) (limit : Float) (work words c y
       → seen (ran (compiled N L) A B limit c y x) ≡ solving N L A B limit work words c y x
   unfolding compiled seen solvingBy
   solving-runs s p r e a b =
-      let k = compiles-success N L work words s p r e in
+      let k = compiles-success plain N L work words s p r e in
       let right = lengthsRight N (length L) (slots N L) (length A) (length B) c y x in
       let accepts : right ≡ true → checkValues A B limit ≡ fine → Accepted N L A B limit = λ l v.
       let n = right-lengths N (length L) (slots N L) (length A) (length B) c y x l in
@@ -127,11 +127,13 @@ module _ (N : ℕ) (L : Plan) (A B : List Float) (limit : Float) (work words : �
 
 module _ (N : ℕ) (L : Plan) (work : ℕ) (words : List ℕ) (s p r : ℕ) (e : compiles N L work (length words) ≡ written s p r) where
   words-left : wordsAfter N L work words ≡ compiled N L ++ drop (4 * r) words
-  unfolding wordsAfter
-  words-left = rw (wordsAfter, e)
+  unfolding wordsAfterBy
+  words-left = rw (wordsAfterBy, e)
 
   program-length : length (compiled N L) ≡ 4 * r
-  program-length = let k = compiles-success N L work (length words) s p r e in words-counted N L (k .pivots) ∙ ap (λ n. 4 * n) (sym (k .records-are))
+  program-length =
+      let k = compiles-success plain N L work (length words) s p r e in
+      words-counted N L (k .pivots) ∙ ap (λ n. 4 * n) (sym (k .records-are))
 
   pub program-fits : 4 * r ≤ length (wordsAfter N L work words)
   program-fits = rw (words-left, length-append) (omega (arith, program-length))

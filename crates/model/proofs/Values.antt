@@ -15,7 +15,7 @@ use Rattle.model.specs.Label.{label}
 use Rattle.model.specs.Fill.{Plan, position, held, slot}
 use Rattle.model.specs.Arith.{plusZero, Answer, number, overflow, zeroDivisor, clean, isFinite, isZero, isSmall, isLimit, next}
 use Rattle.model.specs.Arith.{product, difference, quotient, vanishes}
-use Rattle.model.specs.Formula.{Table, C, Y, X, Tables, Formula, entry, closed, starting, less, lessAll, over, tested, value, vanishedIn}
+use Rattle.model.specs.Formula.{Table, C, Y, X, Tables, Formula, put, entry, closed, starting, less, lessAll, over, tested, value, vanishedIn}
 use Rattle.model.specs.Crout.{inner, lower, forward, upper, backward, nothing}
 use Rattle.model.specs.Run.{notFinite}
 use Rattle.model.specs.Agreement.{Values}
@@ -28,6 +28,7 @@ use Rattle.model.proofs.Arith.{Good, nought, GoodAnswer, clean-good, di
 use Rattle.model.proofs.Arith.{product-nought-left, product-nought-right, quotient-nought, difference-nought, small-nought, large-nonzero}
 use Rattle.model.proofs.Arith.{vanishes-left, vanishes-right}
 use Rattle.model.proofs.Tally.{vanishedBy, vanishedIn-cons}
+use Rattle.model.proofs.Put.{put-end}
 use Rattle.model.proofs.Picked.{shrunk, entry-held}
 use Rattle.model.proofs.Beside.{denseOf, reducedOf, formula-lower, formula-upper}
 
@@ -68,6 +69,12 @@ more-good {vs} {v} g h = record { at = λ k. rw getD-more (either Good (eqb k (l
 
 first-good : {vs : List Float} {v : Float} → AllGood vs → Good v → AllGood (v ∷ vs)
 first-good g h = record { at = elim [ zero ↦ h | suc k ↦ g .at k ] }
+
+put-good : (vs : List Float) (k : ℕ) {v : Float} → AllGood vs → Good v → AllGood (put vs k v)
+unfolding put
+put-good [] k g h = first-good g h
+put-good (w ∷ vs) zero g h = first-good (record { at = λ k. g .at (suc k) }) h
+put-good (w ∷ vs) (suc k) g h = first-good (put-good vs k (record { at = λ k. g .at (suc k) }) h) (g .at 0)
 
 -- ---- what every answer is, whatever the tables
 
@@ -207,9 +214,9 @@ sound-nothing N L = record {
 
 -- one entry more
 module _ {N n : ℕ} {L : Plan} {t : Tables} {v : Float} (sound : Sound N L n t) where
-  pub sound-c : (i j : ℕ) → Inside N i j → suc n ≡ label N i j → Entered N L i j v → Sound N L (suc n) (closed t C v)
+  pub sound-c : (i j : ℕ) → Inside N i j → suc n ≡ label N i j → Entered N L i j v → Sound N L (suc n) (closed t C (label N i j) v)
   unfolding entry closed
-  sound-c i j inside turn entered = record {
+  sound-c i j inside turn entered = rw (put-end (t .c) (label N i j - 1) v (omega (arith, sound .count))) record {
     count = rw length-append (omega arith);
     good-c = more-good (sound .good-c) (entered .good);
     good-y = sound .good-y;
@@ -230,9 +237,9 @@ module _ {N n : ℕ} {L : Plan} {t : Tables} {v : Float} (sound : Sound N L n t)
       earlier : (m : ℕ) → Inside N m m → label N m m ≤ suc n → last (label N m m) ≡ false → label N m m ≤ n
       earlier m there h q = omega (arith, eqb-false (label N m m - 1) (length (t .c)) q, label-range N m m there)
 
-  pub sound-y : Good v → Sound N L n (closed t Y v)
+  pub sound-y : Good v → (k : ℕ) → Sound N L n (closed t Y k v)
   unfolding entry closed
-  sound-y good = record {
+  sound-y good k = record {
     count = sound .count;
     good-c = sound .good-c;
     good-y = more-good (sound .good-y) good;
@@ -241,9 +248,9 @@ module _ {N n : ℕ} {L : Plan} {t : Tables} {v : Float} (sound : Sound N L n t)
     pivot = sound .pivot;
   }
 
-  pub sound-x : Good v → Sound N L n (closed t X v)
+  pub sound-x : Good v → (k : ℕ) → Sound N L n (closed t X k v)
   unfolding entry closed
-  sound-x good = record {
+  sound-x good k = record {
     count = sound .count;
     good-c = sound .good-c;
     good-y = sound .good-y;

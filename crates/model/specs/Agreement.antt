@@ -1,9 +1,9 @@
--- Demand 3 as a statement: what the run of a compiled program is beside dense Crout. Document 01, "Set beside dense Crout"; document 02, A.1 and A.5.
--- Definitions only.
+-- Demand 3 as a statement: what the run of a compiled program is beside dense Crout. Document 01, "Set beside dense Crout"; document 02, A.1, A.5
+-- and A.11. Definitions only.
 use Prim.Native.Nat.{ℕ, _+_}
 use mathlib.Core.Bool.{true}
 use mathlib.Core.Path.{_≡_}
-use mathlib.Core.List.{List, map}
+use mathlib.Core.List.{List, [], map}
 use lib.Dec.{T}
 use lib.ListN.{length, getD}
 use lib.Ieee.{Float, nan, fits, binary64}
@@ -12,8 +12,10 @@ use Rattle.model.specs.Fill.{Plan, heldPlaces, slot, slots, missing, abo
 use Rattle.model.specs.Arith.{isLimit}
 use Rattle.model.specs.Formula.{Table, C, Y, X, Tables, entry, Ended, solved, refused}
 use Rattle.model.specs.Crout.{dense}
-use Rattle.model.specs.Program.{compiled}
+use Rattle.model.specs.Program.{compiledRecords, compiled}
+use Rattle.model.specs.Compact.{compactSlots, compactRecords, compacted, openings, closedInto, mostAlive}
 use Rattle.model.specs.Compile.{judged, good}
+use Rattle.model.specs.Check.{check, fine}
 use Rattle.model.specs.Run.{Outcome, solution, stopped, refusedBy, notFinite, ran}
 
 -- every entry is a value of binary64, as those of an f64 slice are; past the end stands nan, which is one
@@ -76,3 +78,51 @@ Agrees N L A B limit = Accepted N L A B limit
 abbrev pub NeverSolved : ℕ → Plan → List Float → List Float → Float → Type 0
 NeverSolved N L A B limit = Given N L A B limit → (missing N L ≡ 0 → ⊥)
     → (t : Tables) (g : ℕ) → dense N L A B limit ≡ solved t g → ⊥
+
+-- A.11. What is the same in a plain program's run and its compact program's: X, Y, the counts, and a refusal's number, record and table. "A refusal's number in
+-- table 1 is here the slot", and "C holds what each slot closed last".
+pub data Common : Type 0 where
+  solves : List Float → List Float → ℕ → ℕ → ℕ → Common
+  stops : ℕ → ℕ → Table → ℕ → Common
+  other : Common
+
+-- the number of a refusal's target, but for that of table 1
+abbrev pub numberIn : Table → ℕ → ℕ
+numberIn C k = 0
+numberIn Y k = k
+numberIn X k = k
+
+unfoldable pub common : Outcome → Common
+common (solution t products quotients vanished) = solves (t .y) (t .x) products quotients vanished
+common (stopped r index t k) = stops r index t (numberIn t k)
+common (refusedBy r d) = other
+
+abbrev pub CompactAgrees : ℕ → Plan → List Float → List Float → Float → Type 0
+CompactAgrees N L A B limit = Accepted N L A B limit
+    → common (ran (compacted N L) A B limit (compactSlots N L) N N) ≡ common (ran (compiled N L) A B limit (slots N L) N N)
+
+-- "C holds what each slot closed last": the j-th slot opened closes the value of plain slot j.
+abbrev pub CompactC : ℕ → Plan → List Float → List Float → Float → Type 0
+CompactC N L A B limit = Accepted N L A B limit
+    → (t u : Tables) (p q g p′ q′ g′ : ℕ)
+    → ran (compiled N L) A B limit (slots N L) N N ≡ solution t p q g
+    → ran (compacted N L) A B limit (compactSlots N L) N N ≡ solution u p′ q′ g′
+    → u .c ≡ closedInto [] (openings (compactRecords N L)) (t .c)
+
+-- what is compared of two endings, but for C and a refusal's number in table 1
+unfoldable pub besides : Seen → Seen
+besides (whole t products quotients vanished) = whole (record { order = t .order; c = []; y = t .y; x = t .x }) products quotients vanished
+besides (ended r t k) = ended r t (numberIn t k)
+besides (early r d) = early r d
+
+-- in these the compact program's run is dense Crout too
+abbrev pub CompactDense : ℕ → Plan → List Float → List Float → Float → Type 0
+CompactDense N L A B limit = Accepted N L A B limit
+    → besides (seen (ran (compacted N L) A B limit (compactSlots N L) N N)) ≡ besides (compressed N L (dense N L A B limit))
+
+abbrev pub CompactFine : ℕ → Plan → Type 0
+CompactFine N L = isOrder N ≡ true → judged N 0 1 L ≡ good → missing N L ≡ 0 → check (compacted N L) ≡ fine
+
+-- "s must equal the largest number alive at any record"
+abbrev pub CompactLeast : ℕ → Plan → Type 0
+CompactLeast N L = isOrder N ≡ true → judged N 0 1 L ≡ good → missing N L ≡ 0 → compactSlots N L ≡ mostAlive 0 0 (compiledRecords N L)

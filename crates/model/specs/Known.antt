@@ -1,19 +1,21 @@
--- Document 01's "Known plans and values" and its listing, and values for document 02's A.1 and A.5, as one theorem about the definitions.
-use Prim.Native.Nat.{ℕ}
+-- Document 01's "Known plans and values" and its listing, and values for document 02's A.1, A.5 and A.11, as one theorem about the definitions.
+use Prim.Native.Nat.{ℕ, _*_}
 use mathlib.Core.Bool.{true, false}
 use mathlib.Core.Path.{_≡_, refl}
-use mathlib.Core.List.{List, [], _∷_, map}
+use mathlib.Core.List.{List, [], _∷_, _++_, map}
 use lib.IntN.{pos, negsuc}
+use lib.ListN.{replicate}
 use lib.Ieee.{Float, inf, fin, binary64, ofInt, mul, sub, div, neg, lt, eq, le}
 use Rattle.model.specs.Lists.{rising, falling, joined, kept, total, some, count}
 use Rattle.model.specs.Label.{label, column, row, places, place}
 use Rattle.model.specs.Fill.{Plan, positionFrom, position, heldWithin, held, heldPlaces, slots, slot}
 use Rattle.model.specs.Fill.{missingFrom, missing, pairsAt, below, above, productCount, recordCount}
 use Rattle.model.specs.Arith.{plusZero, clean, settled, isZero, isFinite, product, difference, quotient, vanishes, isSmall, isLimit, next}
-use Rattle.model.specs.Formula.{C, Y, Tables, solved, refused, entry, closed, starting, less, lessAll, over, tested, value, vanishedIn, worked}
+use Rattle.model.specs.Formula.{C, Y, Tables, solved, refused, put, entry, closed, starting, less, lessAll, over, tested, value, vanishedIn, worked}
 use Rattle.model.specs.Crout.{inner, lower, forward, upper, backward, batch, formulas, denseFormulas, reducedFormulas, dense}
-use Rattle.model.specs.Program.{opening, recordsOf, chained, compiledRecords, compiled}
-use Rattle.model.specs.Compile.{written, refusal, judged, compiles}
+use Rattle.model.specs.Program.{Record, rec, opening, recordsOf, chained, compiledRecords, compiled}
+use Rattle.model.specs.Compact.{needed, afterRecord, unnamed, renamed, compacting, compactSlots, compactRecords, compacted, openings}
+use Rattle.model.specs.Compile.{written, refusal, judged, compact, orderly, admits, compilesBy, compiles, slotNumbers, workLeft, workAfterBy}
 use Rattle.model.specs.Check.{chainAfter, chain, kindOf, formed, inOrder, inTurn, complete, checkLinks, check}
 use Rattle.model.specs.Run.{Outcome, solution, stopped, refusedBy, step, follow, followed, notFinite, checkValues, ran}
 
@@ -72,12 +74,36 @@ full₂ = 1 ∷ 2 ∷ 3 ∷ 4 ∷ []
 abbrev one : Plan
 one = 1 ∷ []
 
+-- the diagonal of order 2, seven places of order 4, and all places of order N
+abbrev diagonal₂ : Plan
+diagonal₂ = 1 ∷ 4 ∷ []
+
+abbrev plan₄ : Plan
+plan₄ = 1 ∷ 3 ∷ 5 ∷ 8 ∷ 13 ∷ 15 ∷ 16 ∷ []
+
+abbrev full : ℕ → Plan
+full N = rising (λ k. k) 1 (N * N)
+
+-- records that no compiler writes: C(3) less C(1) times C(2), neither read later; C(4), which nobody reads; and C(5) less C(3) times itself
+abbrev ties : List Record
+ties =
+    rec 1 0 1 ∷ rec 8 0 0
+    ∷ rec 1 0 2 ∷ rec 8 0 0
+    ∷ rec 1 0 3 ∷ rec 4 1 2 ∷ rec 8 0 0
+    ∷ rec 1 0 4 ∷ rec 8 0 0
+    ∷ rec 1 0 5 ∷ rec 4 3 3 ∷ rec 8 0 0
+    ∷ []
+
 -- the compiled run of order 2 on A and B with a limit, and that of order 1
 abbrev ran₂ : List Float → List Float → Float → Outcome
 ran₂ A B limit = ran (compiled 2 full₂) A B limit 4 2 2
 
 abbrev ran₁ : List Float → List Float → Float → Outcome
 ran₁ A B limit = ran (compiled 1 one) A B limit 1 1 1
+
+-- the compact run of the diagonal
+abbrev ranDiagonal : List Float → List Float → Outcome
+ranDiagonal A B = ran (compacted 2 diagonal₂) A B plusZero 1 2 2
 
 -- the coefficients of T3, and those of G1, G2 and G3
 abbrev nearlyEqual : List Float
@@ -119,6 +145,10 @@ cut = record { order = 2; c = weak tiny; y = tiny ∷ tiny ∷ []; x = tiny ∷ 
 abbrev flat : Tables
 flat = record { order = 2; c = e₃₀₀ ∷ plusZero ∷ plusZero ∷ plusOne ∷ []; y = plusZero ∷ plusOne ∷ []; x = plusZero ∷ plusOne ∷ [] }
 
+-- the tables of C3: the one slot holds the second pivot
+abbrev onlyLast : Tables
+onlyLast = record { order = 2; c = int 4 ∷ []; y = ints (1 ∷ 3 ∷ []); x = ints (1 ∷ 3 ∷ []) }
+
 pub record Known : Type 0 where
   p1 : (label 6 5 2 ≡ 15) × (label 6 1 6 ≡ 11) × (label 6 6 6 ≡ 36) × (place 6 15 ≡ (5, 2)) × (place 6 11 ≡ (1, 6)) × (place 6 36 ≡ (6, 6))
   p2 : compiles 2 (1 ∷ 2 ∷ 3 ∷ []) 4 92 ≡ written 4 3 23
@@ -151,6 +181,16 @@ pub record Known : Type 0 where
       × (ran₂ (weak e₋₂₀₀) (plusOne ∷ plusOne ∷ []) plusZero ≡ solution ones 3 3 1)
   g2 : (dense 2 full₂ (weak tiny) (tiny ∷ tiny ∷ []) plusZero ≡ solved cut 3) × (ran₂ (weak tiny) (tiny ∷ tiny ∷ []) plusZero ≡ solution cut 3 3 3)
   g3 : (dense 2 full₂ strong (e₋₃₀₀ ∷ plusOne ∷ []) plusZero ≡ solved flat 0) × (ran₂ strong (e₋₃₀₀ ∷ plusOne ∷ []) plusZero ≡ solution flat 3 3 0)
+  -- A.11: the answer and the work slice of the second compiler, also after 5; the run of its program, and a refusal; the slots opened, also where one
+  -- record frees two slots, or a closing one; and how many slots there are
+  c1 : compilesBy compact 2 diagonal₂ 16 60 ≡ written 1 0 15
+  c2 : (workAfterBy compact 2 diagonal₂ (replicate 17 9) 60 ≡ 1 ∷ 0 ∷ 0 ∷ 2 ∷ replicate 12 0 ++ (9 ∷ []))
+      × (workAfterBy compact 2 (2 ∷ 3 ∷ []) (replicate 17 9) 60 ≡ replicate 16 0 ++ (9 ∷ []))
+  c3 : ranDiagonal (ints (2 ∷ 4 ∷ [])) (ints (2 ∷ 12 ∷ [])) ≡ solution onlyLast 0 2 0
+  c4 : ranDiagonal (ints (2 ∷ 0 ∷ [])) (ints (2 ∷ 12 ∷ [])) ≡ stopped 17 7 C 1
+  c5 : (openings (compactRecords 2 full₂) ≡ 1 ∷ 2 ∷ 3 ∷ 1 ∷ []) × (openings (compactRecords 4 plan₄) ≡ 1 ∷ 2 ∷ 3 ∷ 1 ∷ 4 ∷ 1 ∷ 4 ∷ 1 ∷ [])
+  c6 : openings (renamed unnamed ties .records) ≡ 1 ∷ 2 ∷ 3 ∷ 2 ∷ 2 ∷ []
+  c7 : (compactSlots 6 plan₈ ≡ 10) × (compactSlots 3 (full 3) ≡ 7) × (compactSlots 4 (full 4) ≡ 12) × (compactSlots 5 (full 5) ≡ 18)
   -- the listing for input `1 1`, a record a line
   listing : compiled 1 one
       ≡ 1 ∷ 1 ∷ 1 ∷ 1
@@ -167,9 +207,10 @@ pub known : Known
 unfolding rising falling joined kept total some count label column row places place
     positionFrom position heldWithin held heldPlaces slots slot missingFrom missing pairsAt below above productCount recordCount
     clean settled isZero isFinite product difference quotient vanishes isSmall isLimit next
-    entry closed starting less lessAll over tested value vanishedIn worked
+    put entry closed starting less lessAll over tested value vanishedIn worked
     inner lower forward upper backward batch formulas denseFormulas reducedFormulas dense
-    opening recordsOf chained compiledRecords compiled judged compiles
+    opening recordsOf chained compiledRecords compiled needed afterRecord renamed compacting compactSlots compactRecords compacted
+    judged orderly admits compilesBy slotNumbers workLeft workAfterBy
     chainAfter chain kindOf formed inOrder inTurn complete checkLinks check step follow followed notFinite checkValues ran
     mul sub div neg lt eq le ofInt
 known = record {
@@ -194,5 +235,12 @@ known = record {
   g1 = (refl, refl);
   g2 = (refl, refl);
   g3 = (refl, refl);
+  c1 = refl;
+  c2 = (refl, refl);
+  c3 = refl;
+  c4 = refl;
+  c5 = (refl, refl);
+  c6 = refl;
+  c7 = (refl, refl, refl, refl);
   listing = refl;
 }

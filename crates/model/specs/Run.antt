@@ -1,4 +1,4 @@
--- A run of a program, and what it leaves in the lent tables: document 01, "Running", 14 to 17; document 02, A.1 and A.5. Definitions only.
+-- A run of a program, and what it leaves in the lent tables: document 01, "Running", 14 to 17; document 02, A.1, A.5 and A.11. Definitions only.
 use Prim.Native.Nat.{ℕ, suc, _+_}
 use mathlib.Core.Bool.{Bool, true, false, cond, _&&_}
 use mathlib.Core.List.{List, [], _∷_}
@@ -64,7 +64,7 @@ dividedBy z v = record {
 
 abbrev pub closing : State → State
 closing z = record {
-  tables = closed (z .tables) (z .table) (z .running);
+  tables = closed (z .tables) (z .table) (z .target) (z .running);
   table = z .table;
   target = z .target;
   running = z .running;

@@ -1,9 +1,9 @@
 -- A record's judgement by its kind: the tests on numbers that a kind makes are the model's.
 use Prim.Native.Nat.{ℕ, zero, suc, _+_, _-_, _≤_, _<_}
 use native.Mathlib.Omega.{arith}
-use mathlib.Core.Path.{_≡_, refl, sym, subst}
+use mathlib.Core.Path.{_≡_, refl, sym, ap, subst, _∙_}
 use mathlib.Core.Bool.{Bool, true, false, cond, not, _&&_, and-comm, and-false}
-use lib.Dec.{leb, ltb, eqb}
+use lib.Dec.{leb, ltb, eqb, leb·suc-suc}
 use borrow.Author.Tests.{lt-ltb, le-ltb, ltb-true, ltb-false, leb-true, ne-eqb}
 use Rattle.model.specs.Label.{within}
 use Rattle.model.specs.Formula.{Table, C, Y, X, numberOf}
@@ -11,67 +11,69 @@ use Rattle.model.specs.Check as Check
 use Rattle.model.specs.Check.{Open, idle, busy, isIdle, Kind, opens, subtracts, divides, closes, closesPivot, none, kindOf}
 use Rattle.model.specs.Check.{formed, inOrder, inTurn, counted, onward}
 use Rattle.progress.specs.declared.Head.{Head}
+use Rattle.progress.specs.declared.Target.{Target}
+use Rattle.progress.specs.declared.Target.the-variants as Target
 use Rattle.progress.specs.declared.Progress.{Progress}
 use Rattle.progress.specs.Steps.{openOf, openNumber, progressOf, total, firstOf, refusalOf}
 
 -- 11, by the number of the open table
-pub idle-number : (o : Open) → eqb (openNumber o) 0 ≡ isIdle o
-idle-number idle = refl
-idle-number (busy C) = refl
-idle-number (busy Y) = refl
-idle-number (busy X) = refl
+pub idle-number : (t : Target) (k : ℕ) → eqb (openNumber t) 0 ≡ isIdle (openOf t k)
+idle-number Target.Nothing k = refl
+idle-number Target.C k = refl
+idle-number Target.Y k = refl
+idle-number Target.X k = refl
 
 pub opens-order : (t : Table) (o : Open) → isIdle o ≡ inOrder (opens t) o
 unfolding inOrder
 opens-order t idle = refl
-opens-order t (busy u) = refl
+opens-order t (busy u k) = refl
 
 pub divides-order : (o : Open) → not (isIdle o) ≡ inOrder divides o
 unfolding inOrder
 divides-order idle = refl
-divides-order (busy u) = refl
+divides-order (busy u k) = refl
 
 pub closes-order : (o : Open) → not (isIdle o) ≡ inOrder closes o
 unfolding inOrder
 closes-order idle = refl
-closes-order (busy u) = refl
+closes-order (busy u k) = refl
 
-pub subtracts-order : (t : Table) (o : Open) → eqb (openNumber o) (numberOf t) ≡ inOrder (subtracts t) o
+pub subtracts-order : (u : Table) (t : Target) (k : ℕ) → eqb (openNumber t) (numberOf u) ≡ inOrder (subtracts u) (openOf t k)
 unfolding inOrder
-subtracts-order C idle = refl
-subtracts-order Y idle = refl
-subtracts-order X idle = refl
-subtracts-order C (busy C) = refl
-subtracts-order C (busy Y) = refl
-subtracts-order C (busy X) = refl
-subtracts-order Y (busy C) = refl
-subtracts-order Y (busy Y) = refl
-subtracts-order Y (busy X) = refl
-subtracts-order X (busy C) = refl
-subtracts-order X (busy Y) = refl
-subtracts-order X (busy X) = refl
+subtracts-order C Target.Nothing k = refl
+subtracts-order Y Target.Nothing k = refl
+subtracts-order X Target.Nothing k = refl
+subtracts-order C Target.C k = refl
+subtracts-order C Target.Y k = refl
+subtracts-order C Target.X k = refl
+subtracts-order Y Target.C k = refl
+subtracts-order Y Target.Y k = refl
+subtracts-order Y Target.X k = refl
+subtracts-order X Target.C k = refl
+subtracts-order X Target.Y k = refl
+subtracts-order X Target.X k = refl
 
-pub pivot-order : (o : Open) → eqb (openNumber o) 1 ≡ inOrder closesPivot o
+pub pivot-order : (t : Target) (k : ℕ) → eqb (openNumber t) 1 ≡ inOrder closesPivot (openOf t k)
 unfolding inOrder
-pivot-order idle = refl
-pivot-order (busy C) = refl
-pivot-order (busy Y) = refl
-pivot-order (busy X) = refl
+pivot-order Target.Nothing k = refl
+pivot-order Target.C k = refl
+pivot-order Target.Y k = refl
+pivot-order Target.X k = refl
 
--- a record counts at most one entry more
+-- a record counts at most one entry more of Y and X
 counted-total : (o : Open) (g : Check.Progress) → total (counted o g) ≤ suc (total g)
 counted-total idle g = omega arith
-counted-total (busy C) g = omega arith
-counted-total (busy Y) g = omega arith
-counted-total (busy X) g = omega arith
+counted-total (busy C k) g = omega arith
+counted-total (busy Y k) g = omega arith
+counted-total (busy X k) g = omega arith
 
-pub onward-total : (k : Kind) (g : Check.Progress) → total (onward k g) ≤ suc (total g)
-onward-total (opens t) g = omega arith
-onward-total (subtracts t) g = omega arith
-onward-total divides g = omega arith
-onward-total closes g = counted-total (g .target) g
-onward-total closesPivot g = counted-total (g .target) g
-onward-total none g = omega arith
+pub onward-total : (k : Kind) (p q : ℕ) (g : Check.Progress) → total (onward k p q g) ≤ suc (total g)
+onward-total (opens t) p q g = omega arith
+onward-total (subtracts t) p q g = omega arith
+onward-total divides p q g = omega arith
+onward-total closes p q g = counted-total (g .target) g
+onward-total closesPivot p q g = counted-total (g .target) g
+onward-total none p q g = omega arith
 
 -- kinds 4 to 6 subtract into the table whose number is three less
 pub record Subtracting (kind : ℕ) : Type 0 where
@@ -103,36 +105,40 @@ no-kind kind high =
 
 -- one kind's tests give the refusal of a record of that kind
 module _ (h : Head) (g : Progress) (kind p q : ℕ) (k : Kind) (is : kindOf kind ≡ k) where
-  pub arm : {f o t : Bool} → f ≡ formed k p q → o ≡ inOrder k (openOf (g .target)) → t ≡ inTurn (h .order) (h .coefficients) (h .slots) k p q (progressOf g)
+  pub arm : {f o t : Bool} → f ≡ formed k p q → o ≡ inOrder k (progressOf g .target) → t ≡ inTurn (h .order) (h .coefficients) (h .slots) k p q (progressOf g)
       → firstOf f o t ≡ refusalOf h g kind p q
   arm ef eo et = cc
 
 -- kinds 8 and 9 close what is open
-pub onward-closes : (kind : ℕ) (g : Check.Progress) → 8 ≤ kind → kind < 10 → counted (g .target) g ≡ onward (kindOf kind) g
+pub onward-closes : (kind p q : ℕ) (g : Check.Progress) → 8 ≤ kind → kind < 10 → counted (g .target) g ≡ onward (kindOf kind) p q g
 unfolding kindOf
-onward-closes kind g low high =
+onward-closes kind p q g low high =
     let is : 8 + (kind - 8) ≡ kind = omega arith in
-    subst (λ k. counted (g .target) g ≡ onward (kindOf k) g) is (step (kind - 8) (omega arith))
+    subst (λ k. counted (g .target) g ≡ onward (kindOf k) p q g) is (step (kind - 8) (omega arith))
   where
-    step : (d : ℕ) → d < 2 → counted (g .target) g ≡ onward (kindOf (8 + d)) g
+    step : (d : ℕ) → d < 2 → counted (g .target) g ≡ onward (kindOf (8 + d)) p q g
     step zero h = refl
     step (suc zero) h = refl
     step (suc (suc d)) h = absurd (omega arith)
 
 -- kinds that neither open nor close change nothing
-pub onward-same : (kind : ℕ) (g : Check.Progress) → (kind ≡ 1 → ⊥) → (kind ≡ 2 → ⊥) → (kind ≡ 3 → ⊥) → (kind ≡ 8 → ⊥) → (kind ≡ 9 → ⊥)
-    → g ≡ onward (kindOf kind) g
+pub onward-same : (kind p q : ℕ) (g : Check.Progress) → (kind ≡ 1 → ⊥) → (kind ≡ 2 → ⊥) → (kind ≡ 3 → ⊥) → (kind ≡ 8 → ⊥) → (kind ≡ 9 → ⊥)
+    → g ≡ onward (kindOf kind) p q g
 unfolding kindOf
-onward-same kind g n1 n2 n3 n8 n9 =
+onward-same kind p q g n1 n2 n3 n8 n9 =
     rw (ne-eqb kind 1 n1, ne-eqb kind 2 n2, ne-eqb kind 3 n3, ne-eqb kind 8 n8, ne-eqb kind 9 n9) (step (eqb kind 4) (eqb kind 5) (eqb kind 6) (eqb kind 7))
   where
     step : (four five six seven : Bool)
-        → g ≡ onward (cond four (subtracts C) (cond five (subtracts Y) (cond six (subtracts X) (cond seven divides none)))) g
+        → g ≡ onward (cond four (subtracts C) (cond five (subtracts Y) (cond six (subtracts X) (cond seven divides none)))) p q g
     step true five six seven = refl
     step false true six seven = refl
     step false false true seven = refl
     step false false false true = refl
     step false false false false = refl
+
+-- 12 of kind 1: a slot at most one above the highest closed
+pub one-above : (q c : ℕ) → 1 ≤ q → leb (q - 1) c ≡ leb q (suc c)
+one-above q c some = sym (leb·suc-suc (q - 1) c) ∙ ap (λ m. leb m (suc c)) (omega arith)
 
 -- 12 of kind 3, whose tests stand in another order
 pub opens-x-turn : (h : Head) (g : Progress) (p : ℕ)

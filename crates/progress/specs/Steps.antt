@@ -10,23 +10,26 @@ use Rattle.progress.specs.declared.Target.the-variants as Target
 use Rattle.progress.specs.declared.Progress.{Progress}
 use Rattle.progress.specs.declared.Head.{Head}
 
-abbrev pub openOf : Target → Check.Open
-openOf Target.Nothing = idle
-openOf Target.C = busy C
-openOf Target.Y = busy Y
-openOf Target.X = busy X
+-- what is open: entry k of the target
+abbrev pub openOf : Target → ℕ → Check.Open
+openOf Target.Nothing k = idle
+openOf Target.C k = busy C k
+openOf Target.Y k = busy Y k
+openOf Target.X k = busy X k
 
 -- the number of the open table, 0 if none is open
-abbrev pub openNumber : Check.Open → ℕ
-openNumber idle = 0
-openNumber (busy t) = numberOf t
+abbrev pub openNumber : Target → ℕ
+openNumber Target.Nothing = 0
+openNumber Target.C = numberOf C
+openNumber Target.Y = numberOf Y
+openNumber Target.X = numberOf X
 
 abbrev pub progressOf : Progress → Check.Progress
-progressOf g = record { target = openOf (g .target); c = g .c; y = g .y; x = g .x }
+progressOf g = record { target = openOf (g .target) (g .number); c = g .c; y = g .y; x = g .x }
 
--- all that is closed
+-- what is closed of Y and X; of C the slots bound it
 abbrev pub total : Check.Progress → ℕ
-total g = g .c + g .y + g .x
+total g = g .y + g .x
 
 -- 10, then 11, then 12; 0 if none
 unfoldable pub firstOf : Bool → Bool → Bool → ℕ
@@ -38,7 +41,7 @@ firstOf true true true = 0
 -- the number of the refusal of a record of any kind, 0 if none, by record 0's N, n and s
 abbrev pub refusalOf : Head → Progress → ℕ → ℕ → ℕ → ℕ
 refusalOf h g kind p q =
-    firstOf (formed (kindOf kind) p q) (inOrder (kindOf kind) (openOf (g .target)))
+    firstOf (formed (kindOf kind) p q) (inOrder (kindOf kind) (progressOf g .target))
     (inTurn (h .order) (h .coefficients) (h .slots) (kindOf kind) p q (progressOf g))
 
 -- none of 10 to 12 refuses the record

@@ -1,4 +1,5 @@
-// The progress of a check, and one record against 10 to 12: document 01, "Where each refusal is checked".
+// The progress of a check, and one record against 10 to 12: document 01, "Where each refusal is checked"; document 02, A.11.
+use numbers::larger;
 use numbers::within;
 ghost use mathlib.Core.Path.{_≡_};
 ghost use mathlib.Core.Bool.{_&&_};
@@ -26,9 +27,11 @@ pub enum Target {
     X,
 }
 
-// What is open, and how many entries of C, Y and X are closed.
+// What is open and its number, and how many entries of C, Y and X are closed; of C those are always 1 up to the highest closed
+// (document 02, A.11).
 pub struct Progress {
     pub target: Target,
+    pub number: u32,
     pub c: u32,
     pub y: u32,
     pub x: u32,
@@ -40,6 +43,7 @@ pub fn begun() -> Progress
 {
     Progress {
         target: Target::Nothing,
+        number: 0,
         c: 0,
         y: 0,
         x: 0,
@@ -71,7 +75,7 @@ pub fn is_right(h: Head, g: Progress, kind: u32, p: u32, q: u32) -> bool
 
 // The same while nothing is open: only kinds 1 to 3 are right.
 fn opens_rightly(h: Head, g: Progress, kind: u32, p: u32, q: u32) -> bool
-    requires { ⌜ (openOf (g .target) ≡ idle) × (total (progressOf g) ≤ 100000000) ⌝ }
+    requires { ⌜ (progressOf g .target ≡ idle) × (total (progressOf g) ≤ 100000000) ⌝ }
     ensures { λ v. ⌜ v ≡ rightIn h g kind p q ⌝ }
 {
     if kind == 1 {
@@ -122,14 +126,14 @@ fn first_of(formed: bool, ordered: bool, turned: bool) -> u32
 }
 
 // The progress after a record: kinds 1 to 3 open a target, 8 and 9 close it.
-pub fn onward(kind: u32, g: Progress) -> Progress
+pub fn onward(kind: u32, p: u32, q: u32, g: Progress) -> Progress
     requires { ⌜ total (progressOf g) ≤ 100000000 ⌝ }
-    ensures { λ r. ⌜ progressOf r ≡ Check·onward (kindOf kind) (progressOf g) ⌝ }
+    ensures { λ r. ⌜ progressOf r ≡ Check·onward (kindOf kind) p q (progressOf g) ⌝ }
 {
     match kind {
-        1 => opened(g, Target::C),
-        2 => opened(g, Target::Y),
-        3 => opened(g, Target::X),
+        1 => opened(g, Target::C, q),
+        2 => opened(g, Target::Y, p),
+        3 => opened(g, Target::X, p),
         8 | 9 => closed(g),
         _ => g,
     }
@@ -148,7 +152,7 @@ pub fn complete(h: Head, g: Progress) -> bool
 
 // The number of the open table, 0 if none is open.
 fn open_number(target: Target) -> u32
-    ensures { λ r. ⌜ r ≡ openNumber (openOf target) ⌝ }
+    ensures { λ r. ⌜ r ≡ openNumber target ⌝ }
 {
     match target {
         Target::Nothing => 0,
@@ -165,12 +169,11 @@ fn unused(p: u32, q: u32) -> bool
     p == 0 && q == 0
 }
 
-// 12 of kind 1: C(q) opens after the closed ones, with A(p), or with zero if p is 0.
+// 12 of kind 1: C(q) opens, one of the slots and at most one above the highest closed, with A(p), or with zero if p is 0.
 fn turn_of_c(h: Head, g: Progress, p: u32, q: u32) -> bool
-    requires { ⌜ total (progressOf g) ≤ 100000000 ⌝ }
     ensures { λ r. ⌜ r ≡ inTurn (h .order) (h .coefficients) (h .slots) (opens C) p q (progressOf g) ⌝ }
 {
-    p <= h.coefficients && (q == g.c + 1 && q <= h.slots)
+    p <= h.coefficients && (within(q, h.slots) && q - 1 <= g.c)
 }
 
 // 12 of kind 2: Y(p) opens after the closed ones.
@@ -206,40 +209,44 @@ fn readable(h: Head, g: Progress, kind: u32, p: u32, q: u32) -> bool
     }
 }
 
-// The target is open.
-fn opened(g: Progress, target: Target) -> Progress
-    ensures { λ r. ⌜ progressOf r ≡ record { target = openOf target; c = g .c; y = g .y; x = g .x } ⌝ }
+// The target's entry of that number is open.
+fn opened(g: Progress, target: Target, number: u32) -> Progress
+    ensures { λ r. ⌜ progressOf r ≡ record { target = openOf target number; c = g .c; y = g .y; x = g .x } ⌝ }
 {
     Progress {
         target,
+        number,
         c: g.c,
         y: g.y,
         x: g.x,
     }
 }
 
-// One entry more of the open table is closed, and none is open.
+// The open entry is closed, and none is open.
 fn closed(g: Progress) -> Progress
     requires { ⌜ total (progressOf g) ≤ 100000000 ⌝ }
-    ensures { λ r. ⌜ progressOf r ≡ counted (openOf (g .target)) (progressOf g) ⌝ }
+    ensures { λ r. ⌜ progressOf r ≡ counted (progressOf g .target) (progressOf g) ⌝ }
 {
     let target = g.target;
     match target {
         Target::Nothing => g,
         Target::C => Progress {
             target: Target::Nothing,
-            c: g.c + 1,
+            number: 0,
+            c: larger(g.c, g.number),
             y: g.y,
             x: g.x,
         },
         Target::Y => Progress {
             target: Target::Nothing,
+            number: 0,
             c: g.c,
             y: g.y + 1,
             x: g.x,
         },
         Target::X => Progress {
             target: Target::Nothing,
+            number: 0,
             c: g.c,
             y: g.y,
             x: g.x + 1,

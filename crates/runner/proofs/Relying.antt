@@ -24,10 +24,10 @@ module _ (N n s : ℕ) (A c y x : List Float) (z : State) (sound : Sound (length
   counts = counted z c y x sound
 
   -- an open target has room
-  room-free : (u : Table) → OpenRoom N s (busy u) (stateOf z c y x) → Free (length c) (length y) (length x) z
-  room-free C room = rw (room .0) (omega (arith, counts .of-c, room .1))
-  room-free Y room = rw (room .0) (omega (arith, counts .of-y, room .1))
-  room-free X room = rw (room .0) (omega (arith, counts .of-x, room .1))
+  room-free : (u : Table) (k : ℕ) → OpenRoom N s (busy u k) (stateOf z c y x) → Free (length c) (length y) (length x) z
+  room-free C k room = rw (room .0) (omega (arith, counts .of-c, room .1))
+  room-free Y k room = rw (room .0) (omega (arith, counts .of-y, room .1))
+  room-free X k room = rw (room .0) (omega (arith, counts .of-x, room .1))
 
   module _ (p q : ℕ) where
     -- kind by kind
@@ -35,7 +35,7 @@ module _ (N n s : ℕ) (A c y x : List Float) (z : State) (sound : Sound (length
         → Allowed (length A) (length c) (length y) (length x) z k p q
     unfolding inOrder inTurn
     relies o (opens C) order turn room =
-        let t = both (leb p n) (eqb q (suc (length (take (z .c) c))) && leb q s) turn in
+        let t = both (leb p n) (within q s && leb q (suc (length (take (z .c) c)))) turn in
         omega (arith, leb-true p n (t .0))
     relies o (opens Y) order turn room =
         let t = both (eqb p (suc (length (take (z .y) y)))) (leb p N) turn in
@@ -56,8 +56,8 @@ module _ (N n s : ℕ) (A c y x : List Float) (z : State) (sound : Sound (length
         let u = both (ltb m q) (leb q N) (t .1) in
         omega (arith, counts .of-c, counts .of-x, within-range p (length (take (z .c) c)) (t .0), ltb-true m q (u .0), leb-true q N (u .1))
     relies o divides order turn room = omega (arith, counts .of-c, within-range p (length (take (z .c) c)) turn)
-    relies (busy u) closes order turn room = room-free u room
+    relies (busy u k) closes order turn room = room-free u k room
     relies idle closes order turn room = absurd (false≢true order)
-    relies (busy u) closesPivot order turn room = room-free u room
+    relies (busy u k) closesPivot order turn room = room-free u k room
     relies idle closesPivot order turn room = absurd (false≢true order)
     relies o none order turn room = tt

@@ -1,4 +1,4 @@
-// A checked program on values: document 01, "Running", and 14 to 17; document 02, A.1 and A.5.
+// A checked program on values: document 01, "Running", and 14 to 17; document 02, A.1, A.5 and A.11.
 ghost use mathlib.Core.Path.{_≡_};
 ghost use Prim.Native.Nat.{_<_};
 ghost use lib.ListN.{length, replicate};

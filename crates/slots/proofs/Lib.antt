@@ -6,3 +6,4 @@ pub mod Search
 pub mod Settling
 pub mod Along
 pub mod Pass
+pub mod Zeros

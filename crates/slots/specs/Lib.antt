@@ -3,3 +3,4 @@ pub mod Batch
 pub mod Marks
 pub mod Skips
 pub mod Walked
+pub mod Zeros

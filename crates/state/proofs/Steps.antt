@@ -1,5 +1,5 @@
 -- The state with the lent tables as the model's: entries read, and the open target closed.
-use Prim.Native.Nat.{ℕ, suc, _+_, _-_, _≤_, _<_}
+use Prim.Native.Nat.{ℕ, suc, _+_, _-_, _≤_, _<_, max}
 use native.Mathlib.Numerals.{add-one}
 use native.Mathlib.Omega.{arith}
 use mathlib.Core.Path.{_≡_, refl, sym, ap, subst, _∙_}
@@ -18,7 +18,7 @@ use Rattle.arith.specs.Answer.{answerOf, hasVanished}
 use Rattle.state.specs.declared.State.{State}
 use Rattle.state.specs.declared.Stepped.the-variants.{On}
 use Rattle.state.specs.States.{tableOf, stateOf, answered, Sound, FreeIn, Free, Of}
-use Rattle.state.proofs.Tables.{drop-set, getD-last}
+use Rattle.state.proofs.Tables.{take-set, drop-set, getD-last}
 
 -- the state after an operation, or its refusal
 pub answer-is : (r r′ : Operation) (a : Answer) (f : Float → State) → r ≡ r′ → answerOf r ≡ a → answered (answerOf r′) f ≡ answered a f
@@ -82,10 +82,11 @@ module _ (z : State) (c y x : List Float) where
   pub free-in : {t : Table} → tableOf (z .table) ≡ t → Free (length c) (length y) (length x) z → FreeIn (length c) (length y) (length x) z t
   free-in e h = subst (FreeIn (length c) (length y) (length x) z) e h
 
-  pub close-c : tableOf (z .table) ≡ C → z .c < length c
-      → stateOf (counting (z .c + 1) (z .y) (z .x)) (set c (z .c) (z .running)) y x ≡ Run.closing (stateOf z c y x)
+  -- slot k, after which m are closed
+  pub close-c : (k m : ℕ) → tableOf (z .table) ≡ C → FreeIn (length c) (length y) (length x) z C → k ≡ z .target → m ≡ max (z .c) k
+      → stateOf (counting m (z .y) (z .x)) (set c (k - 1) (z .running)) y x ≡ Run.closing (stateOf z c y x)
   unfolding closed
-  close-c e h = rw (e, closed, add-one, take-suc-set)
+  close-c k m e h at is = rw (e, closed, ← at, take-set c (z .c) m (k - 1) (z .running) (omega arith) (omega arith) (omega arith))
 
   pub close-y : tableOf (z .table) ≡ Y → z .y < length y
       → stateOf (counting (z .c) (z .y + 1) (z .x)) c (set y (z .y) (z .running)) x ≡ Run.closing (stateOf z c y x)

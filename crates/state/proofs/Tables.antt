@@ -1,12 +1,27 @@
 -- The lent tables: read and closed entry by entry.
-use Prim.Native.Nat.{ℕ, zero, suc, _+_, _-_, _≤_, _<_}
+use Prim.Native.Nat.{ℕ, zero, suc, _+_, _-_, _≤_, _<_, max}
 use native.Mathlib.Nat.{not-suc-le-zero, le-of-suc-le-suc}
 use native.Mathlib.Omega.{arith}
 use mathlib.Core.Path.{_≡_, refl, ap, _∙_}
 use mathlib.Core.List.{List, [], _∷_}
-use lib.ListN.{length, drop, set, getD, length-drop}
+use lib.ListN.{length, take, drop, set, getD, length-drop}
 use lib.Seq.{getD-drop}
 use lib.Ieee.{Float}
+use Rattle.model.specs.Formula.{put}
+
+-- the entry stored at i is put among the first n, or after them
+pub take-set : (l : List Float) (n m i : ℕ) (a : Float) → i < length l → i ≤ n → m ≡ max n (suc i) → take m (set l i a) ≡ put (take n l) i a
+unfolding put
+take-set [] n m i a h le is = absurd (not-suc-le-zero h)
+take-set (x ∷ l) n zero i a h le is = absurd (omega arith)
+take-set (x ∷ l) zero (suc m) zero a h le is =
+    let none : m ≡ 0 = omega arith in
+    ap (λ k. a ∷ take k l) none
+take-set (x ∷ l) zero (suc m) (suc i) a h le is = absurd (omega arith)
+take-set (x ∷ l) (suc n) (suc m) zero a h le is =
+    let as-many : m ≡ n = omega arith in
+    ap (λ k. a ∷ take k l) as-many
+take-set (x ∷ l) (suc n) (suc m) (suc i) a h le is = ap (λ r. x ∷ r) (take-set l n m i a (omega arith) (omega arith) (omega arith))
 
 -- the entry stored at i stands before those from the next one on
 pub drop-set : (l : List Float) (i : ℕ) (a : Float) → i < length l → drop i (set l i a) ≡ a ∷ drop (suc i) l

@@ -1,5 +1,5 @@
 -- The state of a run with the lent tables as the model's state, and what a step may rely on. Definitions only.
-use Prim.Native.Nat.{ℕ, _+_, _-_, _≤_, _<_}
+use Prim.Native.Nat.{ℕ, suc, _+_, _-_, _≤_, _<_}
 use mathlib.Core.Path.{_≡_}
 use mathlib.Core.Bool.{Bool, cond}
 use mathlib.Core.List.{List}
@@ -96,9 +96,9 @@ abbrev pub SoundStep : ℕ → ℕ → ℕ → Stepped → Type 0
 SoundStep lc ly lx (On z) = Sound lc ly lx z
 SoundStep lc ly lx (Stop r) = Unit {0}
 
--- the open target's table has an entry that is not closed
+-- the open target may be closed: of C one of the slots, at most one above the highest closed; of Y and X there is one that is not closed
 abbrev pub FreeIn : ℕ → ℕ → ℕ → State → Table → Type 0
-FreeIn lc ly lx z C = z .c < lc
+FreeIn lc ly lx z C = (0 < z .target) × (z .target ≤ lc) × (z .target ≤ suc (z .c))
 FreeIn lc ly lx z Y = z .y < ly
 FreeIn lc ly lx z X = z .x < lx
 

@@ -1,4 +1,4 @@
-// The state of a run, and one record on it: document 01, "Running"; document 02, A.1 and A.5.
+// The state of a run, and one record on it: document 01, "Running"; document 02, A.1, A.5 and A.11.
 ghost use mathlib.Core.Path.{_≡_};
 ghost use mathlib.Core.Bool.{cond};
 ghost use Prim.Native.Nat.{_-_, _≤_, _<_};
@@ -12,8 +12,8 @@ ghost use Rattle.state.specs.States.{unopened, Sound, SoundStep, Free, R
 use arith::Operation;
 use numbers::wide;
 
-// The running number, the table and number of its target, how many entries of C, Y and X are closed, the products and quotients made, and
-// how many of the products vanished.
+// The running number, the table and number of its target, how many entries of C, Y and X are closed (of C those from 1 up to the highest
+// closed), the products and quotients made, and how many of the products vanished.
 pub struct State {
     pub running: f64,
     pub table: u32,
@@ -81,7 +81,8 @@ impl State {
         }
     }
 
-    // The open target takes the running number: C and Y close from the left, X from the right.
+    // The open target takes the running number: an entry of C where it stands, or after the last (document 02, A.11); Y closes from the
+    // left, X from the right.
     fn close(mut self, c: &mut [f64], y: &mut [f64], x: &mut [f64]) -> State
         requires { ⌜ Sound (length (now c)) (length (now y)) (length (now x)) self × Free (length (now c)) (length (now y)) (length (now x)) self ⌝ }
         ensures { λ r. ⌜ stateOf r (now (c .exit)) (now (y .exit)) (now (x .exit))
@@ -91,9 +92,11 @@ impl State {
         let table = self.table;
         match table {
             1 => {
-                let at = self.c;
+                let at = wide(self.target) - 1;
                 c[at] = self.running;
-                self.c = at + 1;
+                if at == self.c {
+                    self.c = at + 1;
+                }
             }
             2 => {
                 let at = self.y;

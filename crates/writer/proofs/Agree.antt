@@ -1,4 +1,4 @@
--- The records that the work numbers give are those of the reduced formulas.
+-- The records that the work numbers give are those of the formulas with these numbers.
 use Prim.Native.Nat.{ℕ, zero, suc, _+_, _-_, _≤_, _<_, min}
 use native.Mathlib.Omega.{arith}
 use mathlib.Core.Path.{_≡_, refl, sym, ap, ap₂, _∙_}
@@ -8,14 +8,14 @@ use borrow.Author.Tests.{ne-eqb}
 use lib.Dec.{eqb}
 use Rattle.model.specs.Lists.{rising, falling, joined, kept}
 use Rattle.model.specs.Label.{label}
-use Rattle.model.specs.Fill.{Plan, position, held, slot}
+use Rattle.model.specs.Fill.{Plan, position, held}
 use Rattle.model.specs.Formula.{Formula, C, Y, X}
-use Rattle.model.specs.Crout.{inner, lower, upper, forward, backward, batch, formulas, reducedFormulas}
-use Rattle.model.specs.Program.{Record, recordsOf, compiledRecords}
+use Rattle.model.specs.Crout.{inner, lower, upper, forward, backward, batch, formulas}
+use Rattle.model.specs.Program.{Record, recordsOf}
 use Rattle.model.proofs.Lists.{Each, map-append, rising-each, falling-each}
 use Rattle.model.proofs.Labels.{Inside}
 use Rattle.writer.specs.Worked.{numberAt, keptAt, formulaAt}
-use Rattle.writer.specs.Line.{placeAt, lineAt, yAt, xAt, batchAt, batchRecords, solutionRecords}
+use Rattle.writer.specs.Line.{placeAt, lineAt, yAt, xAt, batchAt, planRecords}
 
 -- ---- lists
 
@@ -80,9 +80,10 @@ pair a b = (a, b)
 inC : ℕ → ℕ → List (ℕ × ℕ) → ℕ → Bool → Formula
 inC target start products divisor pivot = record { table = C; target = target; start = start; products = products; divisor = divisor; pivot = pivot }
 
--- the work numbers are the slots
-module _ (n : ℕ) (L : Plan) (work : List ℕ) (same : (i j : ℕ) → Inside n i j → (slot n L i j ≡ numberAt n work i j) × (held n L i j ≡ keptAt n work i j)) where
-  inner-agree : (i j m : ℕ) → Inside n i j → m ≡ min i j → inner n L (slot n L) (held n L) i j m ≡ inner n [] (numberAt n work) (keptAt n work) i j (min i j)
+-- the work numbers of the places are these, and exactly the held places have one
+module _ (n : ℕ) (L : Plan) (number : ℕ → ℕ → ℕ) (work : List ℕ)
+    (same : (i j : ℕ) → Inside n i j → (number i j ≡ numberAt n work i j) × (held n L i j ≡ keptAt n work i j)) where
+  inner-agree : (i j m : ℕ) → Inside n i j → m ≡ min i j → inner n L number (held n L) i j m ≡ inner n [] (numberAt n work) (keptAt n work) i j (min i j)
   unfolding inner pair
   inner-agree i j m inside least =
       rw least (kept-agree _ _ _ _ _ (rising-each _ (λ h. h) 1 (min i j - 1) (λ h low below.
@@ -91,10 +92,10 @@ module _ (n : ℕ) (L : Plan) (work : List ℕ) (same : (i j : ℕ) → Inside n
       (ap₂ pair (left .0) (right .0), ap₂ _&&_ (left .1) (right .1)))))
 
   abbrev low-formula : ℕ → ℕ → Formula
-  low-formula = lower n L (slot n L) (held n L)
+  low-formula = lower n L number (held n L)
 
   abbrev high-formula : ℕ → ℕ → Formula
-  high-formula = upper n L (slot n L) (held n L)
+  high-formula = upper n L number (held n L)
 
   lower-agree : (i m : ℕ) → Inside n i m → m ≤ i → low-formula i m ≡ formulaAt n work (numberAt n work i m) (position L (label n i m)) 0 i m
   unfolding lower formulaAt inC
@@ -106,23 +107,23 @@ module _ (n : ℕ) (L : Plan) (work : List ℕ) (same : (i j : ℕ) → Inside n
   unfolding upper formulaAt inC
   upper-agree m j inside above =
       rw (ne-eqb m j (omega arith), ← same m m (omega arith) .0)
-      (ap₂ (λ target products. inC target (position L (label n m j)) products (slot n L m m) false)
+      (ap₂ (λ target products. inC target (position L (label n m j)) products (number m m) false)
       (same m j inside .0) (inner-agree m j m inside (omega arith)))
 
-  forward-agree : (m : ℕ) → Inside n m m → recordsOf (forward n L (slot n L) (held n L) m) ≡ yAt n work m
+  forward-agree : (m : ℕ) → Inside n m m → recordsOf (forward n L number (held n L) m) ≡ yAt n work m
   unfolding yAt forward pair
   forward-agree m inside =
       rw (same m m inside .0)
       (ap (λ products. recordsOf (record { table = Y; target = m; start = m; products = products; divisor = numberAt n work m m; pivot = false }))
       (kept-agree _ _ _ _ _ (rising-each _ (λ h. h) 1 (m - 1) (λ h low below. let left = same m h (omega arith) in (ap (λ p. pair p h) (left .0), left .1)))))
 
-  backward-agree : (i : ℕ) → Inside n i i → recordsOf (backward n L (slot n L) (held n L) i) ≡ xAt n work i
+  backward-agree : (i : ℕ) → Inside n i i → recordsOf (backward n L number (held n L) i) ≡ xAt n work i
   unfolding xAt backward pair
   backward-agree i inside =
       ap (λ products. recordsOf (record { table = X; target = i; start = i; products = products; divisor = 0; pivot = false }))
       (kept-agree _ _ _ _ _ (falling-each _ (λ h. h) n (n - i) (λ h high low. let right = same i h (omega arith) in (ap (λ p. pair p h) (right .0), right .1))))
 
-  batch-agree : (m : ℕ) → Inside n m m → recordsOfAll (batch n L (slot n L) (held n L) m) ≡ batchAt n L work m
+  batch-agree : (m : ℕ) → Inside n m m → recordsOfAll (batch n L number (held n L) m) ≡ batchAt n L work m
   unfolding batch batchAt lineAt placeAt recordsOfAll joined
   batch-agree m inside =
       let long : suc n - suc m ≡ n - m = omega arith in
@@ -140,12 +141,12 @@ module _ (n : ℕ) (L : Plan) (work : List ℕ) (same : (i j : ℕ) → Inside n
           let inside : Inside n m j = omega arith in
           ap₂ (λ b rs. cond b rs []) (same m j inside .1) (ap recordsOf (upper-agree m j inside low))
 
-  -- The headline: batch by batch, and then the solution, they are the compiled program's records.
-  pub records-agree : compiledRecords n L ≡ batchRecords n L work ++ solutionRecords n work
-  unfolding compiledRecords reducedFormulas formulas recordsOfAll
+  -- The headline: batch by batch, and then the solution, the records of the formulas with these numbers are the plan's.
+  pub records-agree : joined (map recordsOf (formulas n L number (held n L))) ≡ planRecords n L work
+  unfolding formulas recordsOfAll
   records-agree =
       let long : suc n - 1 ≡ n = omega arith in
       let all : n - 0 ≡ n = omega arith in
-      rw (long, all) (all-append (joined (rising (batch n L (slot n L) (held n L)) 1 n)) _
-      ∙ ap₂ _++_ (all-joined (batch n L (slot n L) (held n L)) _ 1 n (λ m low high. batch-agree m (omega arith)))
-      (all-falling (backward n L (slot n L) (held n L)) _ n n (omega arith) (λ i low high. backward-agree i (omega arith))))
+      rw (long, all) (all-append (joined (rising (batch n L number (held n L)) 1 n)) _
+      ∙ ap₂ _++_ (all-joined (batch n L number (held n L)) _ 1 n (λ m low high. batch-agree m (omega arith)))
+      (all-falling (backward n L number (held n L)) _ n n (omega arith) (λ i low high. backward-agree i (omega arith))))

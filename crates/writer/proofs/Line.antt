@@ -17,7 +17,7 @@ use Rattle.model.specs.Program.{recordsOf}
 use Rattle.model.proofs.Labels.{Inside, label-range, label-turn, label-next}
 use Rattle.model.proofs.Plans.{plan-length}
 use Rattle.model.proofs.Pointer.{isNext, passedBy, position-next, planned-next, passed-next, passed-at-most}
-use Rattle.writer.specs.Worked.{Zeros, numberAt, keptAt, innerAt, forwardAt, NoneBelow, formulaAt}
+use Rattle.writer.specs.Worked.{numberAt, keptAt, innerAt, forwardAt, NoneBelow, formulaAt}
 use Rattle.writer.specs.Written.{Room, Wrote}
 use Rattle.writer.specs.Line.{Ready, Before, divisorOf, placeAt, lineAt, lineRecords, yAt, batchAt}
 use Rattle.slots.specs.Batch.{rowOf, columnOf, firstOf}
@@ -162,12 +162,6 @@ module _ {n : ℕ} {L : Plan} {work : List ℕ} {across : Bool} {m : ℕ} where
         (rising-ends (along .rising) (omega arith), rw end (along .before))
 
 -- ---- places that aren't kept may be passed over
-
--- one more is 0
-pub zeros-more : (work : List ℕ) (from most k at : ℕ) → Zeros work from most k → k < most → at ≡ k → getD work (from + at) 0 ≡ 0
-    → Zeros work from most (k + 1)
-zeros-more work from most k at zeros below e none =
-    (omega arith, λ j before. elim (decLe k j) [ yes n ↦ (let same : from + j ≡ from + at = omega arith in rw same none) | no n ↦ zeros .1 j (omega arith) ])
 
 -- labels grow by one along a line, so that its last place has a work number
 line-label : (n m t : ℕ) (across : Bool) (d : ℕ) → firstOf across m ≤ t

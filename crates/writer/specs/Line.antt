@@ -62,3 +62,7 @@ module _ (n : ℕ) (L : Plan) (work : List ℕ) where
 
   abbrev pub batchRecords : List Record
   batchRecords = joined (rising batchAt 1 (suc n - 1))
+
+  -- the records of the whole plan
+  abbrev pub planRecords : List Record
+  planRecords = batchRecords ++ solutionRecords n work

@@ -1,5 +1,5 @@
 -- The formulas as the work numbers give them: the work number of a label is its slot, 0 where the place is not held. Definitions only.
-use Prim.Native.Nat.{ℕ, _+_, _-_, _*_, _≤_, _<_, min}
+use Prim.Native.Nat.{ℕ, _-_, _*_, _≤_, _<_, min}
 use mathlib.Core.Path.{_≡_}
 use mathlib.Core.Bool.{Bool}
 use mathlib.Core.List.{List, []}
@@ -24,10 +24,6 @@ pub record Covers (n : ℕ) (work : List ℕ) : Type 0 where
   pub low : 1 ≤ n
   pub high : n ≤ 600
   pub long : n * n ≤ length work
-
--- the first r work numbers from an index on are 0, and r is at most so many
-abbrev pub Zeros : List ℕ → ℕ → ℕ → ℕ → Type 0
-Zeros work from most r = (r ≤ most) × ((k : ℕ) → k < r → getD work (from + k) 0 ≡ 0)
 
 -- the record of the product l(i,h) u(h,j), of l(m,h) y(h) and of u(i,h) x(h), if it is kept
 unfoldable pub innerAt : ℕ → List ℕ → ℕ → ℕ → ℕ → List Record

@@ -5,21 +5,22 @@ use numbers::wide;
 use slots::lines::column_of;
 use slots::lines::first_of;
 use slots::lines::row_of;
+use slots::lines::zeros;
 ghost use mathlib.Core.Path.{_≡_};
 ghost use mathlib.Core.Bool.{cond};
 ghost use mathlib.Core.List.{_∷_, [], _++_};
 ghost use lib.Dec.{eqb};
-ghost use Prim.Native.Nat.{suc, _+_, _*_, _≤_, min};
+ghost use Prim.Native.Nat.{suc, _*_, _≤_, min};
 ghost use lib.ListN.{length, drop};
 ghost use Rattle.model.specs.Fill.{recordCount};
 ghost use Rattle.model.specs.Crout.{forward, backward};
-ghost use Rattle.model.specs.Program.{rec, recordsOf, compiled};
+ghost use Rattle.model.specs.Program.{rec, recordsOf, program};
 ghost use Rattle.model.proofs.Labels.{Inside};
 ghost use Rattle.model.proofs.Pointer.{isNext, passedBy};
 ghost use Rattle.writer.specs.Written.{Room, Wrote, productOf, quotientOf};
-ghost use Rattle.writer.specs.Worked.{Zeros, numberAt, keptAt, Covers, innerAt, forwardAt, backwardAt, upTo, downTo, NoneBelow, formulaAt};
+ghost use Rattle.writer.specs.Worked.{numberAt, keptAt, Covers, innerAt, forwardAt, backwardAt, upTo, downTo, NoneBelow, formulaAt};
 ghost use Rattle.writer.specs.Prepared.{Prepared};
-ghost use Rattle.writer.specs.Line.{Ready, Before, divisorOf, placeAt, lineRecords, batchAt, batchRecords, solutionRecords};
+ghost use Rattle.writer.specs.Line.{Ready, Before, divisorOf, placeAt, lineRecords, batchAt, batchRecords, solutionRecords, planRecords};
 ghost use Rattle.slots.specs.Batch.{rowOf, columnOf, firstOf};
 
 // How far the plan is written: the next free record, the places done and the plan's labels among them.
@@ -39,7 +40,7 @@ struct Place {
     divisor: u32,
 }
 
-// The whole program of a plan whose pivots are all held: record 0, the batches, the solution; the last record's next is 0.
+// The whole program of a plan, with the work numbers for its slots: record 0, the batches, the solution; the last record's next is 0.
 pub fn write(
     n: u32,
     plan: &[u32],
@@ -49,8 +50,9 @@ pub fn write(
     words: &mut [u32],
     slots: u32,
 )
-    requires { ⌜ Prepared n (now plan) (now work) (now rows) (now columns) (now words) slots ⌝ }
-    ensures { λ r. ⌜ now (words .exit) ≡ compiled n (now (plan .entry)) ++ drop (4 * recordCount n (now (plan .entry))) (now (words .entry)) ⌝ }
+    requires { ⌜ Prepared n (now plan) (now work) (now rows) (now columns) (now words) ⌝ }
+    ensures { λ r. ⌜ now (words .exit) ≡ program n (length (now (plan .entry))) slots (planRecords n (now (plan .entry)) (now (work .entry)))
+        ++ drop (4 * recordCount n (now (plan .entry))) (now (words .entry)) ⌝ }
 {
     words[0] = n;
     words[1] = plan.len() as u32;
@@ -161,21 +163,6 @@ fn write_line(
         t += empty + 1;
     }
     at
-}
-
-// How many work numbers from an index on are 0, before one that isn't, of so many at the most.
-fn zeros(work: &[u32], from: usize, most: u32) -> u32
-    requires { ⌜ (from + most ≤ length (now work)) × (from ≤ 360000) ⌝ }
-    ensures { λ r. ⌜ Zeros (now (work .entry)) from most r ⌝ }
-{
-    let mut k = 0;
-    while k < most {
-        if work[from + wide(k)] != 0 {
-            return k;
-        }
-        k += 1;
-    }
-    k
 }
 
 // The next place, (i, j): its formula, if it is held, goes into the rest of the words, lent from the next free record on.

@@ -3,6 +3,29 @@
 
 use crate::reading::{Refusal, plan::Written, run::Outcome};
 
+/// Declares exported functions by the types of what `call!` hands them: numbers, slices that they read, each as a pointer and a length,
+/// the limit, if they take one, and slices that they may write.
+macro_rules! exported {
+    ($($name:ident: [$($number:ty),*], [$($read:ty),*], [$($limit:ty)?], [$($lent:ty),*];)*) => {
+        mod exported {
+            extern "C" {
+                $(pub fn $name(
+                    $(_: $number,)* $(_: *const $read, _: usize,)* $(_: $limit,)? $(_: *mut $lent, _: usize,)* out: *mut u64,
+                ) -> u64;)*
+            }
+        }
+    };
+}
+
+/// Calls one of them with an array for its answer.
+macro_rules! call {
+    ($name:ident, [$($number:expr),*], [$($read:expr),*], [$($limit:expr)?], [$($lent:expr),*]) => {
+        Answer::of(|out| unsafe {
+            exported::$name($($number,)* $($read.as_ptr(), $read.len(),)* $($limit,)? $($lent.as_mut_ptr(), $lent.len(),)* out)
+        })
+    };
+}
+
 pub mod compile;
 pub mod file;
 pub mod labels;

@@ -2,34 +2,11 @@
 
 use super::Answer;
 
-/// Declares exported functions by the types of what `call!` hands them: numbers, slices that they read, each as a pointer and a length,
-/// the limit, if they take one, and slices that they may write.
-macro_rules! exported {
-    ($($name:ident: [$($number:ty),*], [$($read:ty),*], [$($limit:ty)?], [$($lent:ty),*];)*) => {
-        mod exported {
-            extern "C" {
-                $(pub fn $name(
-                    $(_: $number,)* $(_: *const $read, _: usize,)* $(_: $limit,)? $(_: *mut $lent, _: usize,)* out: *mut u64,
-                ) -> u64;)*
-            }
-        }
-    };
-}
-
 exported! {
     crout_run: [], [u32, f64, f64], [], [f64, f64, f64];
     crout_run_limit: [], [u32, f64, f64], [f64], [f64, f64, f64];
     crout_solve: [u32], [u32, f64, f64], [], [u32, u32, f64, f64, f64];
     crout_solve_limit: [u32], [u32, f64, f64], [f64], [u32, u32, f64, f64, f64];
-}
-
-/// Calls one of them with an array for its answer.
-macro_rules! call {
-    ($name:ident, [$($number:expr),*], [$($read:expr),*], [$($limit:expr)?], [$($lent:expr),*]) => {
-        Answer::of(|out| unsafe {
-            exported::$name($($number,)* $($read.as_ptr(), $read.len(),)* $($limit,)? $($lent.as_mut_ptr(), $lent.len(),)* out)
-        })
-    };
 }
 
 /// Runs a program; out is products, quotients, 0, or after 16 and 17 the table, the target's number, 0.

@@ -1,12 +1,17 @@
-//! Checks 7 to 13: a program's words, followed along its chain.
+//! Checks 7 to 13: a program's words, followed along its chain. A slot may be opened again (document 02, A.11), so which of them have
+//! been closed is kept one by one.
 
 use super::Verdict;
 
-#[derive(Default)]
 struct Progress {
     /// 0 for none, else the open table: 1 for C, 2 for Y, 3 for X.
     open: u32,
-    c: u32,
+    /// The slot opened last.
+    slot: u32,
+    /// Whether each slot has been closed; the first entry is unused.
+    closed: Vec<bool>,
+    /// The highest slot closed so far, 0 for none.
+    highest: u32,
     y: u32,
     x: u32,
 }
@@ -19,6 +24,26 @@ struct Head {
 }
 
 impl Progress {
+    fn new(slots: u32) -> Self {
+        Self { open: 0, slot: 0, closed: vec![false; slots as usize + 1], highest: 0, y: 0, x: 0 }
+    }
+
+    fn close(&mut self) {
+        match self.open {
+            1 => {
+                self.closed[self.slot as usize] = true;
+                self.highest = self.highest.max(self.slot);
+            }
+            2 => self.y += 1,
+            _ => self.x += 1,
+        }
+        self.open = 0;
+    }
+
+    fn complete(&self, head: &Head) -> bool {
+        self.open == 0 && self.closed[1..].iter().all(|&closed| closed) && self.y == head.n && self.x == head.n
+    }
+
     /// 10 to 12 for one record.
     fn step(&mut self, head: &Head, [kind, p, q]: [u32; 3]) -> Result<(), u32> {
         let unused = match kind {
@@ -39,9 +64,9 @@ impl Progress {
         if misplaced {
             return Err(11);
         }
-        let closed_c = |k: u32| (1..=self.c).contains(&k);
+        let closed_c = |k: u32| self.closed.get(k as usize) == Some(&true);
         let right = match kind {
-            1 => p <= head.plan && q == self.c + 1 && q <= head.slots,
+            1 => p <= head.plan && (1..=head.slots).contains(&q) && q <= self.highest + 1,
             2 => p == self.y + 1 && p <= head.n,
             3 => p >= 1 && u64::from(p) + u64::from(self.x) == u64::from(head.n) && p <= self.y,
             4 => closed_c(p) && closed_c(q),
@@ -53,12 +78,10 @@ impl Progress {
         if !right {
             return Err(12);
         }
-        match (kind, self.open) {
-            (1..=3, _) => self.open = kind,
-            (8 | 9, open) => {
-                *[&mut self.c, &mut self.y, &mut self.x][open as usize - 1] += 1;
-                self.open = 0;
-            }
+        match kind {
+            1 => (self.open, self.slot) = (1, q),
+            2 | 3 => self.open = kind,
+            8 | 9 => self.close(),
             _ => {}
         }
         Ok(())
@@ -77,10 +100,10 @@ pub fn check_with(len: usize, word: impl Fn(usize) -> u32) -> Verdict {
     }
     let head = Head { n: word(0), plan: word(1), slots: word(2) };
     let square = u64::from(head.n) * u64::from(head.n);
-    if !(1..=600).contains(&head.n) || u64::from(head.plan) > square || head.slots < head.n || u64::from(head.slots) > square {
+    if !(1..=600).contains(&head.n) || u64::from(head.plan) > square || head.slots < 1 || u64::from(head.slots) > square {
         return Err((8, 0));
     }
-    let mut progress = Progress::default();
+    let mut progress = Progress::new(head.slots);
     let mut at = 0;
     loop {
         let next = word(4 * at + 3) as usize;
@@ -94,6 +117,5 @@ pub fn check_with(len: usize, word: impl Fn(usize) -> u32) -> Verdict {
         let record = [word(4 * at), word(4 * at + 1), word(4 * at + 2)];
         progress.step(&head, record).map_err(|number| (number, at as u64))?;
     }
-    let complete = progress.open == 0 && progress.c == head.slots && progress.y == head.n && progress.x == head.n;
-    if complete { Ok(()) } else { Err((13, 0)) }
+    if progress.complete(&head) { Ok(()) } else { Err((13, 0)) }
 }

@@ -1,6 +1,7 @@
 //! The documents read once more, in plain Rust and by other means than the proved code where there are any.
 
 pub mod check;
+pub mod compact;
 pub mod dense;
 pub mod file;
 pub mod labels;

@@ -1,4 +1,5 @@
-//! The run of a program: 7 to 13, 14, 15, 21, then its records, 16 and 17.
+//! The run of a program: 7 to 13, 14, 15, 21, then its records, 16 and 17. A slot that is opened again keeps its value until it is closed
+//! again (document 02, A.11).
 
 use super::check::check;
 use super::dense::{difference, is_small, product, quotient, read, vanishes};

@@ -1,6 +1,7 @@
 -- `capi::crout_compile` gives the number and the numbers of what the compiler answers.
 use native.Mathlib.Omega.{arith}
 use borrow.Author.Needs.{needs}
+use Rattle.model.specs.Compile.{plain}
 use Rattle.model.specs.Boundary.{compiledNumber, compiledNumbers}
 use Rattle.model.proofs.Small.{compiles-small}
 use Rattle.capi.proofs.Numbers.{carried, compiled-fits}
@@ -11,7 +12,7 @@ compile-requires : tie.Need-compile-requires
 compile-requires c κs = search needs
 
 compile-answer-requires : tie.Need-compile-answer-requires
-compile-answer-requires c κs = compiled-fits (c .before .before .before .before .before .compile .ensures .0) (compiles-small _ _ _ _) (omega arith)
+compile-answer-requires c κs = compiled-fits (c .before .before .before .before .before .compile .ensures .0) (compiles-small plain _ _ _ _) (omega arith)
 
 same-length : tie.Need-same-length
 same-length c = search needs

@@ -127,7 +127,7 @@ arrived o =
     let read = reading o in
     let right = sym (o .before .before .is-right .ensures) ∙ not-false _ (o .before .if3 .left) in
     check-goes-on _ _ _ _ _ _ (turn read) (eqb-true (refusal-now read) 0 right) (o .onward .result)
-    (o .onward .ensures ∙ ap (λ r. onward (kindOf (r .kind)) (progressOf (read .before .loop2 .g))) (read .record-at2 .ensures))
+    (o .onward .ensures ∙ ap (λ r. onward (kindOf (r .kind)) (r .p) (r .q) (progressOf (read .before .loop2 .g))) (read .record-at2 .ensures))
 
 nearer : (records k₀ k next : ℕ) → k₀ ≤ k → k < next → next < records → records - next < records - k₀
 nearer records k₀ k next from up low = omega arith

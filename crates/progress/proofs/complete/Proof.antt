@@ -4,7 +4,7 @@ use mathlib.Core.Bool.{true}
 use borrow.Author.Tests.{eq-eqb, ne-eqb}
 use lib.Dec.{eqb}
 use Rattle.model.specs.Check.{isIdle, complete}
-use Rattle.progress.specs.Steps.{openOf}
+use Rattle.progress.specs.Steps.{progressOf}
 use Rattle.progress.proofs.Judging.{idle-number}
 use borrow.Author.Needs.{needs}
 use Rattle.progress.proofs.complete.Statement.{statement}
@@ -13,9 +13,10 @@ use Rattle.progress.proofs.complete.Tie as tie
 open-number-requires : tie.Need-open-number-requires
 open-number-requires c κs = search needs
 
-idle : (c : tie.Then1) → isIdle (openOf (c .before .before .args .g .target)) ≡ true
+idle : (c : tie.Then1) → isIdle (progressOf (c .before .before .args .g) .target) ≡ true
 idle c =
-    sym (idle-number (openOf (c .before .before .args .g .target))) ∙ ap (λ m. eqb m 0) (sym (c .before .open-number .ensures)) ∙ eq-eqb _ _ (c .if1 .taken)
+    let g = c .before .before .args .g in
+    sym (idle-number (g .target) (g .number)) ∙ ap (λ m. eqb m 0) (sym (c .before .open-number .ensures)) ∙ eq-eqb _ _ (c .if1 .taken)
 
 returns : tie.Need-returns
 unfolding complete
@@ -31,7 +32,9 @@ returns-3 c = rw (idle (c .before .before), ne-eqb _ _ (c .if2 .left))
 
 returns-4 : tie.Need-returns-4
 unfolding complete
-returns-4 c = rw (← idle-number (openOf (c .before .before .args .g .target)), ← c .before .open-number .ensures, ne-eqb _ _ (c .if1 .left))
+returns-4 c =
+    let g = c .before .before .args .g in
+    rw (← idle-number (g .target) (g .number), ← c .before .open-number .ensures, ne-eqb _ _ (c .if1 .left))
 
 pub complete-spec : {M : Type 1} → statement M
 complete-spec = tie.close (tie.spec open-number-requires returns returns-2 returns-3 returns-4)

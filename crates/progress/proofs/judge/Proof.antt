@@ -6,7 +6,7 @@ use native.Mathlib.Nat.{le-trans, le-of-suc-le-suc}
 use lib.Dec.{eqb, lit≤}
 use Rattle.model.specs.Formula.{C, Y, X}
 use Rattle.model.specs.Check.{opens, subtracts, divides, closes, closesPivot, kindOf, formed, inOrder, inTurn, isIdle}
-use Rattle.progress.specs.Steps.{openOf, progressOf, firstOf, refusalOf}
+use Rattle.progress.specs.Steps.{progressOf, firstOf, refusalOf}
 use Rattle.progress.proofs.Judging.{idle-number, opens-order, divides-order, closes-order, subtracts-order, pivot-order}
 use Rattle.progress.proofs.Judging.{subtracting, above, no-kind, arm}
 use borrow.Author.Needs.{needs}
@@ -75,8 +75,8 @@ first-of-requires-7 : tie.Need-first-of-requires-7
 first-of-requires-7 c κs = search needs
 
 -- 11's test whether anything is open
-idle-now : (c : tie.After-open-number) → eqb (c .open-number .result) 0 ≡ isIdle (openOf (c .before .args .g .target))
-idle-now c = ap (λ m. eqb m 0) (c .open-number .ensures) ∙ idle-number (openOf (c .before .args .g .target))
+idle-now : (c : tie.After-open-number) → eqb (c .open-number .result) 0 ≡ isIdle (progressOf (c .before .args .g) .target)
+idle-now c = ap (λ m. eqb m 0) (c .open-number .ensures) ∙ idle-number (c .before .args .g .target) (c .before .args .g .number)
 
 returns : tie.Need-returns
 unfolding kindOf formed inTurn
@@ -118,7 +118,7 @@ unfolding kindOf formed inTurn
 returns-6 c =
     let a = c .before .before .before .before .args in
     c .first-of6 .ensures ∙ arm (a .h) (a .g) (a .kind) (a .p) (a .q) closesPivot (ap kindOf (c .before .before .match .keys6)) (c .before .unused2 .ensures)
-    (ap (λ m. eqb m 1) (c .before .before .before .open-number .ensures) ∙ pivot-order _) refl
+    (ap (λ m. eqb m 1) (c .before .before .before .open-number .ensures) ∙ pivot-order (a .g .target) (a .g .number)) refl
 
 returns-7 : tie.Need-returns-7
 unfolding formed
@@ -126,7 +126,8 @@ returns-7 c =
     let a = c .before .before .before .before .before .args in
     let sub = subtracting (a .kind) (low (c .before .before)) (le-of-suc-le-suc (c .before .before .if1 .taken)) in
     c .first-of7 .ensures ∙ arm (a .h) (a .g) (a .kind) (a .p) (a .q) (subtracts (sub .table)) (sub .kind-is) refl
-    (ap (λ m. eqb m (a .kind - 3)) (c .before .before .before .before .open-number .ensures) ∙ ap (eqb _) (sub .number-is) ∙ subtracts-order (sub .table) _)
+    (ap (λ m. eqb m (a .kind - 3)) (c .before .before .before .before .open-number .ensures) ∙ ap (eqb _) (sub .number-is)
+    ∙ subtracts-order (sub .table) (a .g .target) (a .g .number))
     (c .before .readable .ensures ∙ ap (λ k. inTurn (a .h .order) (a .h .coefficients) (a .h .slots) k (a .p) (a .q) (progressOf (a .g))) (sub .kind-is))
 
 returns-8 : tie.Need-returns-8
@@ -139,7 +140,7 @@ returns-9 : tie.Need-returns-9
 unfolding formed firstOf
 returns-9 c =
     let a = c .before .before .before .args in
-    sym (ap (λ k. firstOf (formed k (a .p) (a .q)) (inOrder k (openOf (a .g .target)))
+    sym (ap (λ k. firstOf (formed k (a .p) (a .q)) (inOrder k (progressOf (a .g) .target))
     (inTurn (a .h .order) (a .h .coefficients) (a .h .slots) k (a .p) (a .q) (progressOf (a .g)))) (no-kind (a .kind) (high c)))
 
 pub judge-spec : {M : Type 1} → statement M

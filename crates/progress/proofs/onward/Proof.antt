@@ -22,32 +22,40 @@ closed-requires c κs = search needs
 
 returns : tie.Need-returns
 unfolding kindOf
-returns c = c .opened .ensures ∙ ap (λ k. onward (kindOf k) (progressOf (c .before .before .args .g))) (sym (c .before .match .keys1))
+returns c =
+    let a = c .before .before .args in
+    c .opened .ensures ∙ ap (λ k. onward (kindOf k) (a .p) (a .q) (progressOf (a .g))) (sym (c .before .match .keys1))
 
 returns-2 : tie.Need-returns-2
 unfolding kindOf
-returns-2 c = c .opened2 .ensures ∙ ap (λ k. onward (kindOf k) (progressOf (c .before .before .args .g))) (sym (c .before .match .keys2))
+returns-2 c =
+    let a = c .before .before .args in
+    c .opened2 .ensures ∙ ap (λ k. onward (kindOf k) (a .p) (a .q) (progressOf (a .g))) (sym (c .before .match .keys2))
 
 returns-3 : tie.Need-returns-3
 unfolding kindOf
-returns-3 c = c .opened3 .ensures ∙ ap (λ k. onward (kindOf k) (progressOf (c .before .before .args .g))) (sym (c .before .match .keys3))
+returns-3 c =
+    let a = c .before .before .args in
+    c .opened3 .ensures ∙ ap (λ k. onward (kindOf k) (a .p) (a .q) (progressOf (a .g))) (sym (c .before .match .keys3))
 
 returns-4 : tie.Need-returns-4
 returns-4 c =
     let a = c .before .before .before .before .args in
-    c .closed .ensures ∙ onward-closes (a .kind) (progressOf (a .g)) (c .before .before .if1 .left) (c .before .if2 .taken)
+    c .closed .ensures ∙ onward-closes (a .kind) (a .p) (a .q) (progressOf (a .g)) (c .before .before .if1 .left) (c .before .if2 .taken)
 
 returns-5 : tie.Need-returns-5
 returns-5 c =
     let a = c .before .before .args in
     let other = c .before .match .rest in
-    onward-same (a .kind) (progressOf (a .g)) (other .0 .0 .1) (other .0 .1) (other .1) (λ e. omega (arith, c .if1 .taken)) (λ e. omega (arith, c .if1 .taken))
+    onward-same (a .kind) (a .p) (a .q) (progressOf (a .g)) (other .0 .0 .1) (other .0 .1) (other .1)
+    (λ e. omega (arith, c .if1 .taken)) (λ e. omega (arith, c .if1 .taken))
 
 returns-6 : tie.Need-returns-6
 returns-6 c =
     let a = c .before .before .before .args in
     let other = c .before .before .match .rest in
-    onward-same (a .kind) (progressOf (a .g)) (other .0 .0 .1) (other .0 .1) (other .1) (λ e. omega (arith, c .if2 .left)) (λ e. omega (arith, c .if2 .left))
+    onward-same (a .kind) (a .p) (a .q) (progressOf (a .g)) (other .0 .0 .1) (other .0 .1) (other .1)
+    (λ e. omega (arith, c .if2 .left)) (λ e. omega (arith, c .if2 .left))
 
 pub onward-spec : {M : Type 1} → statement M
 onward-spec =

@@ -5,7 +5,7 @@ use borrow.Author.Needs.{needs}
 use borrow.Author.Tests.{eq-eqb, ne-eqb}
 use Rattle.model.specs.Formula.{Table, C, Y, X}
 use Rattle.model.specs.Check.{opens, kindOf, formed, inOrder, inTurn}
-use Rattle.progress.specs.Steps.{openOf}
+use Rattle.progress.specs.Steps.{progressOf}
 use Rattle.progress.proofs.Right.{opens-idle, right-arm, idle-wrong}
 use Rattle.progress.proofs.opens_rightly.Statement.{statement}
 use Rattle.progress.proofs.opens_rightly.Tie as tie
@@ -14,7 +14,7 @@ turn-of-c-requires : tie.Need-turn-of-c-requires
 turn-of-c-requires c κs = search needs
 
 -- 11 of kinds 1 to 3
-ordered : (s : tie.Start) (t : Table) → true ≡ inOrder (opens t) (openOf (s .args .g .target))
+ordered : (s : tie.Start) (t : Table) → true ≡ inOrder (opens t) (progressOf (s .args .g) .target)
 ordered s t = opens-idle t _ (s .pre .0)
 
 returns : tie.Need-returns

@@ -36,13 +36,13 @@ slice-write-words-4 c = simp length-set (omega (arith, long (c .before .before .
 write-batches-requires : tie.Need-write-batches-requires
 write-batches-requires c κs =
     let start = c .before .before .before .before .before .before in
-    (ready (start .pre), batch-room (start .pre))
+    (ready (start .pre), batch-room (start .pre) _)
 
 write-solution-requires : tie.Need-write-solution-requires
 write-solution-requires c κs =
     let b = c .before .before .before in
     let p = entry b .pre in
-    (ready p .covers, solution-room p (b .write-batches .ensures))
+    (ready p .covers, solution-room p _ (b .write-batches .ensures))
 
 wide-requires : tie.Need-wide-requires
 wide-requires c κs = search needs
@@ -62,7 +62,7 @@ inside : (c : tie.After-wide) → let words = solution c .write-solution .last .
 inside c =
     let s = solution c in
     let b = batches s in
-    last-inside (entry b .pre) (b .write-batches .ensures) (s .write-solution .ensures) _ (ap (λ e. 4 * e - 1) (c .wide .ensures))
+    last-inside (entry b .pre) _ (b .write-batches .ensures) (s .write-solution .ensures) _ (ap (λ e. 4 * e - 1) (c .wide .ensures))
 
 slice-write-words-5 : tie.Need-slice-write-words-5
 slice-write-words-5 c = inside c .1
@@ -74,7 +74,7 @@ returns : tie.Need-returns
 returns c =
     let s = solution c in
     let b = batches s in
-    program-written (entry b .pre) (b .write-batches .ensures) (s .write-solution .ensures) _ (ap (λ e. 4 * e - 1) (c .wide .ensures))
+    program-written (entry b .pre) _ (b .write-batches .ensures) (s .write-solution .ensures) _ (ap (λ e. 4 * e - 1) (c .wide .ensures))
 
 pub write-spec : {M : Type 1} → statement M
 write-spec =

@@ -1,5 +1,5 @@
--- `compiler::compile` answers and leaves what the model says: each refusal by the first check that fails.
-use Prim.Native.Nat.{_*_, _≤_}
+-- `compiler::compile_by` answers and leaves what the model says: each refusal by the first check that fails.
+use Prim.Native.Nat.{_+_, _*_, _≤_}
 use native.Mathlib.Omega.{arith}
 use native.Mathlib.Nat.{mul-le-mul}
 use mathlib.Core.Path.{_≡_, sym, ap, _∙_}
@@ -9,11 +9,15 @@ use lib.ListN.{length}
 use borrow.Author.Needs.{needs}
 use borrow.Author.Tests.{not-true, not-false}
 use Rattle.model.specs.Label.{isOrder}
+use Rattle.model.specs.Compile.{wanted}
 use Rattle.model.proofs.Within.{within-range}
-use Rattle.model.proofs.Compiles.{ends-order, ends-room, ends-labels}
+use Rattle.model.proofs.Compiles.{ends-order, ends-labels}
+use Rattle.compiler.specs.Compilation.{compilerOf}
 use Rattle.compiler.specs.Judge.{labelsOf}
-use Rattle.compiler.proofs.compile.Statement.{statement}
-use Rattle.compiler.proofs.compile.Tie as tie
+use Rattle.compiler.proofs.Begun.{wanted-is, wanted-fits}
+use Rattle.compiler.proofs.Ending.{room-ends}
+use Rattle.compiler.proofs.compile_by.Statement.{statement}
+use Rattle.compiler.proofs.compile_by.Tie as tie
 
 -- Places of the code: past check 1, with the entry before it; and past check 2.
 abbrev entry : tie.Else1 → tie.Start
@@ -23,7 +27,7 @@ abbrev Sized : Type 0
 Sized = tie.Else2
 
 abbrev ordered : Sized → tie.Else1
-ordered c = c .before .before
+ordered c = c .before .before .before
 
 in-order : (k : tie.Else1) → isOrder (entry k .args .n) ≡ true
 in-order k = sym (k .before .within .ensures) ∙ not-false _ (k .if1 .left)
@@ -31,29 +35,36 @@ in-order k = sym (k .before .within .ensures) ∙ not-false _ (k .if1 .left)
 square-fits : (k : tie.Else1) → let n = entry k .args .n in n * n ≤ 360000
 square-fits k = let n = within-range _ 600 (in-order k) .1 in mul-le-mul {n₂ = 600} {m₂ = 600} n n
 
-roomy : (k : Sized) → let a = entry (ordered k) .args in a .n * a .n ≤ length (now (a .work))
-roomy k = omega arith
+-- what check 2 wants
+wants : (k : tie.After-spare) → let a = entry (k .before) .args in a .n * a .n + k .spare .result ≡ wanted (compilerOf (a .again)) (a .n)
+wants k = let a = entry (k .before) .args in ap (λ past. a .n * a .n + past) (k .spare .ensures) ∙ wanted-is (compilerOf (a .again)) (a .n)
+
+roomy : (k : Sized) → let a = entry (ordered k) .args in wanted (compilerOf (a .again)) (a .n) ≤ length (now (a .work))
+roomy k = omega (arith, wants (k .before .before))
 
 within-requires : tie.Need-within-requires
 within-requires c κs = search needs
 
 returns : tie.Need-returns
-returns c = let e = ends-order _ _ _ _ (sym (c .before .within .ensures) ∙ not-true _ (c .if1 .taken)) in (e .answer-is, (e .work-is, e .words-is))
+returns c = ends-order _ _ _ _ _ (sym (c .before .within .ensures) ∙ not-true _ (c .if1 .taken))
 
-mul-square : tie.Need-mul-square
-mul-square c = omega (arith, square-fits c)
+mul-wanted : tie.Need-mul-wanted
+mul-wanted c = omega (arith, square-fits c)
+
+spare-requires : tie.Need-spare-requires
+spare-requires c κs = within-range _ 600 (in-order c) .1
+
+add-wanted : tie.Need-add-wanted
+add-wanted c = let a = entry (c .before) .args in omega (arith, wants c, wanted-fits (compilerOf (a .again)) (a .n) (square-fits (c .before)))
 
 wide-requires : tie.Need-wide-requires
 wide-requires c κs = search needs
 
-cast-t12 : tie.Need-cast-t12
-cast-t12 c = search needs
+cast-t15 : tie.Need-cast-t15
+cast-t15 c = search needs
 
 returns-2 : tie.Need-returns-2
-returns-2 c =
-    let a = entry (c .before .before) .args in
-    let e = ends-room (a .n) (now (a .plan)) (now (a .work)) (now (a .words)) (in-order (c .before .before)) (omega arith) in
-    (e .answer-is, (e .work-is, e .words-is))
+returns-2 c = let k = c .before .before in room-ends (wants k) (in-order (k .before)) (omega arith)
 
 judge-requires : tie.Need-judge-requires
 judge-requires c κs = within-range _ 600 (in-order (ordered c)) .1
@@ -74,8 +85,7 @@ returns-3 : tie.Need-returns-3
 returns-3 c =
     let judge = c .before .before .before in
     let labels = sym (judge .judge .ensures) ∙ ap labelsOf (c .before .number .given .1) in
-    let e = ends-labels _ _ _ _ _ _ (in-order (ordered (judge .before))) (roomy (judge .before)) labels in
-    (e .answer-is, (e .work-is, e .words-is))
+    ends-labels _ _ _ _ _ _ _ (in-order (ordered (judge .before))) (roomy (judge .before)) labels
 
 same-length : tie.Need-same-length
 same-length c = search needs
@@ -86,15 +96,17 @@ same-length-2 c = search needs
 returns-4 : tie.Need-returns-4
 returns-4 c = search needs
 
-pub compile-spec : {M : Type 1} → statement M
-compile-spec =
+pub compile-by-spec : {M : Type 1} → statement M
+compile-by-spec =
     tie.close
     (tie.spec
     within-requires
     returns
-    mul-square
+    mul-wanted
+    spare-requires
+    add-wanted
     wide-requires
-    cast-t12
+    cast-t15
     returns-2
     judge-requires
     enum-known-number

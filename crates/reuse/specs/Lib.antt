@@ -1,0 +1,2 @@
+-- What the contracts of `reuse` cite.
+pub mod Places
