@@ -3,8 +3,8 @@ use Prim.Native.Nat.{ℕ, _+_, _*_, _≤_, _<_}
 use native.Mathlib.Omega.{arith}
 use mathlib.Core.Path.{_≡_, sym, ap, ap₂, _∙_}
 use mathlib.Core.Bool.{true}
-use mathlib.Core.List.{List, _++_}
-use lib.ListN.{length, take, drop, replicate, length-append, length-drop, length-replicate}
+use mathlib.Core.List.{List, _++_, append-assoc}
+use lib.ListN.{length, take, drop, replicate, length-append, length-drop, replicate-append-replicate}
 use lib.Seq.{take-at, drop-at, drop-drop}
 use Rattle.model.specs.Label.{isOrder}
 use Rattle.model.specs.Fill.{Plan, missing, recordCount}
@@ -20,7 +20,8 @@ use Rattle.slots.specs.declared.Filled.{Filled}
 use Rattle.writer.specs.Line.{planRecords}
 use Rattle.writer.specs.Prepared.{Prepared}
 use Rattle.compiler.specs.Slotted.{Slotted}
-use Rattle.compiler.proofs.Begun.{wanted-is}
+use Rattle.compiler.proofs.Wanted.{wanted-is}
+use Rattle.compiler.proofs.Parts.{partOf, withPart, cleared-part}
 use Rattle.compiler.proofs.Numbers.{slots-agree, plan-compiled}
 
 -- too few work numbers
@@ -33,13 +34,13 @@ abbrev recordsOf : ℕ → Filled → ℕ
 recordsOf n r = 1 + 2 * (r .slots + 2 * n) + r .products + n + r .above
 
 module _ {c : Compiler} {N : ℕ} {L : Plan} {before work inRows inColumns : List ℕ} {r : Filled} (s : Slotted c N L before work inRows inColumns r) where
-  numbers : work ≡ workWith c N (slotNumbers N L) before
+  numbers : work ≡ slotNumbers N L ++ drop (N * N) before
   numbers = s .filled .written ∙ ap (λ l. slotNumbers N L ++ l) (s .rest)
 
   slots-first : take (N * N) work ≡ slotNumbers N L
   slots-first = rw numbers (take-at _ _ (N * N) (slot-numbers-length N L))
 
-  past-slots : drop (N * N) work ≡ replicate (spare c N) 0 ++ drop (wanted c N) before
+  past-slots : drop (N * N) work ≡ drop (N * N) before
   past-slots = rw numbers (drop-at (slotNumbers N L) _ (N * N) (slot-numbers-length N L))
 
   past-wanted : drop (wanted c N) work ≡ drop (wanted c N) before
@@ -47,7 +48,8 @@ module _ {c : Compiler} {N : ℕ} {L : Plan} {before work inRows inColumns : Lis
       ap (λ k. drop k work) (sym (wanted-is c N))
       ∙ sym (drop-drop (spare c N) (N * N) work)
       ∙ ap (drop (spare c N)) past-slots
-      ∙ drop-at (replicate (spare c N) 0) _ (spare c N) (length-replicate (spare c N) 0)
+      ∙ drop-drop (spare c N) (N * N) before
+      ∙ ap (λ k. drop k before) (wanted-is c N)
 
   pub roomy : wanted c N ≤ length work
   roomy = omega (
@@ -55,18 +57,20 @@ module _ {c : Compiler} {N : ℕ} {L : Plan} {before work inRows inColumns : Lis
     s .room,
     wanted-is c N,
     ap length numbers,
-    length-append (slotNumbers N L) (replicate (spare c N) 0 ++ drop (wanted c N) before),
+    length-append (slotNumbers N L) (drop (N * N) before),
     slot-numbers-length N L,
-    length-append (replicate (spare c N) 0) (drop (wanted c N) before),
-    length-replicate {A = ℕ} (spare c N) 0,
-    length-drop (wanted c N) before,
+    length-drop (N * N) before,
   )
 
   -- a missing pivot, and the work numbers cleared
-  pub missing-ends : (words : List ℕ) {cleared : List ℕ} → (r .missing ≡ 0 → ⊥) → cleared ≡ replicate (N * N) 0 ++ drop (N * N) work
-      → Ends c N L before words (refusal 5 (r .missing)) cleared words
-  missing-ends words {cleared} gone e =
-      let clean : cleared ≡ workWith c N (replicate (N * N) 0) before = e ∙ ap (λ l. replicate (N * N) 0 ++ l) past-slots in
+  pub missing-ends : (words : List ℕ) {count : ℕ} {cleared : List ℕ} → (r .missing ≡ 0 → ⊥) → count ≡ N * N + spare c N
+      → cleared ≡ replicate count 0 ++ drop count work → Ends c N L before words (refusal 5 (r .missing)) cleared words
+  missing-ends words {cleared = cleared} gone all e =
+      let clean : cleared ≡ workWith c N (replicate (N * N) 0) before =
+      e
+      ∙ ap (λ k. replicate k 0 ++ drop k work) all
+      ∙ ap₂ _++_ (sym (replicate-append-replicate (N * N) (spare c N) 0)) (ap (λ k. drop k work) (wanted-is c N) ∙ past-wanted)
+      ∙ append-assoc (replicate (N * N) 0) (replicate (spare c N) 0) _ in
       rw (s .filled .missing-is, clean) (ends-pivot c N L before words (s .order) (s .room) (s .labels) (λ none. gone (s .filled .missing-is ∙ none)))
 
   records-are : recordsOf N r ≡ recordCount N L
@@ -81,10 +85,16 @@ module _ {c : Compiler} {N : ℕ} {L : Plan} {before work inRows inColumns : Lis
 
   module _ (complete : r .missing ≡ 0) (words : List ℕ) (records : ℕ) (count : records ≡ recordsOf N r) where
     -- too few words
-    pub short-ends : length words < 4 * records → Ends c N L before words (refusal 6 records) work words
-    short-ends few =
+    pub short-ends : {square spares : ℕ} {part : List ℕ} → length words < 4 * records → square ≡ N * N → spares ≡ spare c N
+        → part ≡ replicate spares 0 ++ drop spares (partOf square (length work) work)
+        → Ends c N L before words (refusal 6 records) (withPart square (length work) work part) words
+    short-ends {square} {spares} {part} few square-is spares-is e =
         let all = count ∙ records-are in
-        rw (all, numbers) (ends-words c N L before words (s .order) (s .room) (s .labels) (none complete) (rw all at few))
+        let clean : withPart square (length work) work part ≡ workWith c N (slotNumbers N L) before =
+        cleared-part square work spares e
+        ∙ ap₂ (λ q k. take q work ++ (replicate k 0 ++ drop (q + k) work)) square-is spares-is
+        ∙ ap₂ (λ xs ys. xs ++ (replicate (spare c N) 0 ++ ys)) slots-first (ap (λ k. drop k work) (wanted-is c N) ∙ past-wanted) in
+        rw (all, clean) (ends-words c N L before words (s .order) (s .room) (s .labels) (none complete) (rw all at few))
 
     module _ (enough : 4 * records ≤ length words) where
       pub prepared : Prepared N L work inRows inColumns words
@@ -113,7 +123,7 @@ module _ {c : Compiler} {N : ℕ} {L : Plan} {before work inRows inColumns : Lis
           → Ends c N L before words (written (r .slots) (r .products) records) work words′
       unfolding compiled
       plain-ends is wrote =
-          done-ends (s .filled .slots-are ∙ sym (ap (λ c. slotsBy c N L) is)) numbers
+          done-ends (s .filled .slots-are ∙ sym (ap (λ c. slotsBy c N L) is)) (numbers ∙ sym (ap (λ c. workWith c N (slotNumbers N L) before) is))
           (wrote ∙ rw (is, s .filled .slots-are, plan-compiled N L work slots-first))
 
       -- and with slots used again

@@ -3,5 +3,5 @@ pub mod Numbers
 pub mod Parts
 pub mod Copied
 pub mod Compacted
-pub mod Begun
+pub mod Wanted
 pub mod Ending

@@ -2,21 +2,21 @@
 use Prim.Native.Nat.{ℕ, _*_, _≤_}
 use mathlib.Core.Path.{_≡_}
 use mathlib.Core.Bool.{true}
-use mathlib.Core.List.{List, _++_}
-use lib.ListN.{length, drop, replicate}
+use mathlib.Core.List.{List}
+use lib.ListN.{length, drop}
 use Rattle.model.specs.Label.{isOrder}
 use Rattle.model.specs.Fill.{Plan}
-use Rattle.model.specs.Compile.{judged, good, Compiler, wanted, spare}
+use Rattle.model.specs.Compile.{judged, good, Compiler, wanted}
 use Rattle.slots.specs.Walked.{FillsPlan}
 use Rattle.slots.specs.declared.Filled.{Filled}
 
--- the plan was marked in the work numbers that came before, those past the marks that the compiler uses were cleared, and its places are filled
+-- the plan was marked in the work numbers that came before, and its places are filled
 pub record Slotted (c : Compiler) (N : ℕ) (L : Plan) (before work inRows inColumns : List ℕ) (r : Filled) : Type 0 where
   pub order : isOrder N ≡ true
   pub labels : judged N 0 1 L ≡ good
   pub room : wanted c N ≤ length before
   pub marks : List ℕ
-  pub rest : drop (N * N) marks ≡ replicate (spare c N) 0 ++ drop (wanted c N) before
+  pub rest : drop (N * N) marks ≡ drop (N * N) before
   pub filled : FillsPlan N L marks work inRows inColumns r
 
 -- for some work numbers before

@@ -103,13 +103,11 @@ fn compile_good(
 {
     let mut rows = [601u32; 601];
     let mut columns = [601u32; 601];
-    let square = wide(n * n);
     slots::mark(n, plan, work);
-    slots::clear(&mut work[square..], wide(spare(n, again)));
     let filled = slots::fill(n, work, &mut rows, &mut columns);
     let missing = filled.missing;
     if missing != 0 {
-        slots::clear(work, square);
+        slots::clear(work, wide(n * n + spare(n, again)));
         return Compilation::Refused {
             number: 5,
             detail: missing as u64,
@@ -138,6 +136,8 @@ fn compile_filled(
     let products = filled.products;
     let records = record_count(n, filled.slots, products, filled.above);
     if words.len() < 4 * wide(records) {
+        let square = wide(n * n);
+        slots::clear(&mut work[square..], wide(spare(n, again)));
         return Compilation::Refused {
             number: 6,
             detail: records as u64,

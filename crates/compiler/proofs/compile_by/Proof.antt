@@ -14,7 +14,7 @@ use Rattle.model.proofs.Within.{within-range}
 use Rattle.model.proofs.Compiles.{ends-order, ends-labels}
 use Rattle.compiler.specs.Compilation.{compilerOf}
 use Rattle.compiler.specs.Judge.{labelsOf}
-use Rattle.compiler.proofs.Begun.{wanted-is, wanted-fits}
+use Rattle.compiler.proofs.Wanted.{wanted-is, wanted-fits}
 use Rattle.compiler.proofs.Ending.{room-ends}
 use Rattle.compiler.proofs.compile_by.Statement.{statement}
 use Rattle.compiler.proofs.compile_by.Tie as tie
