@@ -14,7 +14,7 @@ use Rattle.compiler.proofs.Ending.{roomy, missing-ends}
 use Rattle.compiler.proofs.compile_good.Statement.{statement}
 use Rattle.compiler.proofs.compile_good.Tie as tie
 
--- Places of the code: where the plan is marked, with the entry before it, where the places are filled, and where a pivot is found missing.
+-- Places of the code: where the plan is marked, with the entry before it, where the places are filled, and where a pivot is found missing or none.
 abbrev Marked : Type 0
 Marked = tie.After-mark
 
@@ -32,6 +32,9 @@ gone c = c .before .before
 
 abbrev filled : tie.Then1 → Filled
 filled c = c .before .before .before .before .before
+
+abbrev whole : tie.Else1 → Filled
+whole c = c .before .before .before .before .before
 
 ordered : (c : tie.Start) → c .args .n ≤ 600
 ordered c = within-range (c .args .n) 600 (c .pre .0) .1
@@ -112,7 +115,7 @@ slice-aggregate-compile-filled-2 c = search needs
 compile-filled-requires : tie.Need-compile-filled-requires
 compile-filled-requires c κs =
     let complete = c .before .before .before .before in
-    (record { before = _; slotted = slotted (complete .before .before .before .before .before) }, complete .if1 .left)
+    (record { before = _; slotted = slotted (whole complete) }, complete .if1 .left)
 
 same-length-2 : tie.Need-same-length-2
 same-length-2 c = search needs
@@ -123,7 +126,7 @@ same-length-3 c = search needs
 returns-2 : tie.Need-returns-2
 returns-2 c =
     let d = c .before .before .before .before in
-    d .compile-filled .ensures _ (slotted (d .before .before .before .before .before .before .before .before .before .before))
+    d .compile-filled .ensures _ (slotted (whole (d .before .before .before .before .before)))
 
 pub compile-good-spec : {M : Type 1} → statement M
 compile-good-spec =
