@@ -41,7 +41,9 @@ enum crout_refusal_number {
     CROUT_FILE_BYTES = 18,
     CROUT_OUTPUT_SHORT = 19, /* the entries needed */
     CROUT_LISTING_TEXT = 20, /* the listing program's alone: the position in its input, in bytes from 1 */
-    CROUT_LIMIT = 21
+    CROUT_LIMIT = 21,
+    CROUT_DIAGONAL_MISSING = 26, /* the first row r whose place (r, r) is not in the plan */
+    CROUT_UNSETTLED = 27
 };
 
 /* The refusal's number in what a call returned, 0 if it didn't refuse. */
@@ -82,7 +84,8 @@ static inline const char *crout_refusal_text(uint32_t number) {
     case CROUT_NEXT:
         return "a record's next does not lead onward within the program: the program is damaged; fetch it or compile the plan again";
     case CROUT_KIND:
-        return "a record's kind is unknown, or an operand that its kind does not use is not 0: "
+        return "a record's kind is unknown, or one for sweeps where there are slots or for Crout where there are none, "
+               "or an operand that its kind does not use is not 0: "
                "the program is damaged or from another compiler; compile the plan again";
     case CROUT_OPEN:
         return "a record opens an entry while one is open, or works on one while none or one of the wrong table is: "
@@ -94,12 +97,14 @@ static inline const char *crout_refusal_text(uint32_t number) {
         return "the program ends with an entry open or before all of C, Y and X are closed: "
                "the program is cut off or damaged; fetch it or compile the plan again";
     case CROUT_LENGTHS:
-        return "a slice has not the length that the program wants: lend a, b, c, y and x with as many entries as words 1, 0, 2, 0 and 0 say";
+        return "a slice has not the length that the program wants: "
+               "lend a, b, c, y and x with as many entries as words 1, 0, 2, 0 and 0 say, and y with none if word 2 is 0";
     case CROUT_NOT_FINITE:
         return "a coefficient or a right side is infinite or not a number: correct the one at the position that the detail gives, "
                "in a, or if all of a is finite in b";
     case CROUT_OVERFLOW:
-        return "a result is too large for a double: scale the equations; the detail is the record";
+        return "a result is too large for a double: scale the equations, or if sweeps move ever further run the Crout program; "
+               "the detail is the record";
     case CROUT_ZERO:
         return "a pivot is zero or within the run's limit, or a divisor is zero, so these coefficients have no solution "
                "that can be relied on in this order: correct them or number the unknowns otherwise; the detail is the record";
@@ -110,7 +115,13 @@ static inline const char *crout_refusal_text(uint32_t number) {
     case CROUT_LISTING_TEXT:
         return "the listing program's input is bad: correct it at the byte position that the detail gives";
     case CROUT_LIMIT:
-        return "the limit for pivots is negative, infinite or not a number: give 0, or the size up to which a pivot counts as zero";
+        return "the limit for pivots, or a sweep's tolerance, is negative, infinite or not a number: "
+               "give 0, or the size up to which a pivot counts as zero or an entry as settled";
+    case CROUT_DIAGONAL_MISSING:
+        return "a row has no diagonal coefficient, so it cannot be swept: put the place (r, r) into the plan, r being the detail, "
+               "or compile the plan for Crout";
+    case CROUT_UNSETTLED:
+        return "300 sweeps did not settle, and x holds the last of them: run the Crout program of the plan, or give a larger tolerance";
     default:
         return "no refusal has this number: what was split is not what a call returned, or a detail has passed 32 bits";
     }
@@ -135,6 +146,13 @@ uint64_t crout_compile(uint32_t n, const uint32_t *plan, size_t plan_len, uint32
 uint64_t crout_compile_compact(uint32_t n, const uint32_t *plan, size_t plan_len, uint32_t *work, size_t work_len,
                                uint32_t *words, size_t words_len, uint64_t out[3]);
 
+/* Compiles a plan to a program of Gauss-Seidel sweeps, which has a record for each place and no slots. Row r starts from b(r), subtracts
+   a times x for the other places of the row, columns rising, and divides by the coefficient of (r, r), which the plan has to have. work
+   is at least n * n numbers, and number K ends as the position of label K in the plan, from 1, or 0 if it is not there; after 26 they are
+   all 0. words is at least four times the records. out: 0, the products of one sweep, records. Refusals 1 to 4, 26, 6. */
+uint64_t crout_compile_sweep(uint32_t n, const uint32_t *plan, size_t plan_len, uint32_t *work, size_t work_len,
+                             uint32_t *words, size_t words_len, uint64_t out[3]);
+
 /* Checks a program file's bytes: 18, then 7 to 13. */
 uint64_t crout_check(const uint8_t *file, size_t file_len);
 
@@ -146,13 +164,17 @@ uint64_t crout_read(const uint8_t *bytes, size_t bytes_len, uint32_t *words, siz
 
 /* Runs a program on coefficients a and a right side b. c, y and x take the tables and the solution. A pivot l is refused by 17
    where -limit <= l <= limit; 0 refuses zero alone.
-   out: products, quotients, products that vanished, 0; after 16 and 17 the table (1 for C, 2 for Y, 3 for X), the target's number, 0, 0;
-   the detail is then the record. A product vanishes where it is zero and neither of its factors is: if any did, a zero in x may be a
-   number too small for a double, and scaled equations may show it. Refusals 7 to 17 and 21. */
+   out: products, quotients, products that vanished, sweeps, 0 of them for Crout; after 16 and 17 the table (1 for C, 2 for Y, 3 for X),
+   the target's number, 0, 0; the detail is then the record. A product vanishes where it is zero and neither of its factors is: if any
+   did, a zero in x may be a number too small for a double, and scaled equations may show it.
+   A program of sweeps, whose words[2] is 0, starts x at 0 and sweeps until no entry moves by more than limit, which is its tolerance, at
+   most 300 times. It has no c and no y: their lengths are 0, and their pointers any that aren't null, x itself if one likes. What out
+   counts is of all sweeps together. 27 leaves the last sweep in x. Refusals 7 to 17, 21 and 27. */
 uint64_t crout_run_limit(const uint32_t *words, size_t words_len, const double *a, size_t a_len, const double *b, size_t b_len,
                          double limit, double *c, size_t c_len, double *y, size_t y_len, double *x, size_t x_len, uint64_t out[4]);
 
-/* The same with limit 0. out: products, quotients, 0; after 16 and 17 the table, the target's number, 0. Refusals 7 to 17. */
+/* The same with limit 0, with which a sweep settles if it moves no entry at all. out: products, quotients, 0; after 16 and 17 the table,
+   the target's number, 0. Refusals 7 to 17, and 27 for sweeps. */
 uint64_t crout_run(const uint32_t *words, size_t words_len, const double *a, size_t a_len, const double *b, size_t b_len,
                    double *c, size_t c_len, double *y, size_t y_len, double *x, size_t x_len, uint64_t out[3]);
 

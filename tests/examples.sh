@@ -50,7 +50,7 @@ g++ -std=c++11 "${strict[@]}" -x c++ tests/c/texts.c -o $at/texts_cpp
 $at/texts_c
 $at/texts_cpp
 
-for name in sheet spy; do
+for name in sheet spy site; do
     gcc -std=c11 "${strict[@]}" examples/$name.c examples/plan.c examples/plan_text.c examples/basics.c $library -o $at/$name
 done
 
@@ -75,6 +75,11 @@ $at/sheet examples/document002.txt /dev/full >$at/said 2>&1 && fail "a full disk
 grep -q '^/dev/full: ' $at/said || fail "a full disk wasn't reported"
 $at/sheet examples/document002.txt $at/document002.crout >/dev/full 2>$at/said && fail "lost output went unnoticed"
 says 'usage: sheet FILE.txt PROGRAM.crout' 2 $at/sheet examples/document002.txt
+
+# site: both ways to solve it, and what is said of sweeps that don't settle
+same tests/examples/site.out 0 $at/site
+$at/site >/dev/full 2>$at/said && fail "site's lost output went unnoticed"
+grep -q '^standard output: ' $at/said || fail "site's lost output wasn't reported"
 
 # spy: the stored pictures, and a plan of the largest order
 same docs/pictures/document002.svg 0 $at/spy examples/document002.txt

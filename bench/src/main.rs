@@ -1,7 +1,7 @@
 //! The exported functions beside plain Rust: a line for each case with the best times in microseconds, their ratio, and the
 //! nanoseconds for each record (and, for a run, each product), ours first. Beside a run stand dense Crout and, where it is
-//! installed, KLU, and beside the compact program ours of the plain one. The callers take turns, and what they may write is cleared
-//! before each timing.
+//! installed, KLU, and beside the compact program ours of the plain one. Sweeps stand beside one Crout run of the same system, on some
+//! networks and then on grids of rising orders. The callers take turns, and what they may write is cleared before each timing.
 //!
 //! The last table has the time of a run against the order. `--csv FILE` and `--plot FILE` write it as CSV and as a picture; with
 //! `growth` nothing else is measured.
@@ -26,6 +26,7 @@ mod klu;
 mod plain;
 mod plot;
 mod run;
+mod sweep;
 mod table;
 mod timing;
 
@@ -82,6 +83,9 @@ fn beside() {
     cases.into_iter().for_each(run::run);
     table::head("run compact", &run::COMPACT_COLUMNS);
     cases.into_iter().for_each(run::compact);
+    table::head("sweeps", &sweep::COLUMNS);
+    sweep::sweeps();
+    sweep::searches();
     println!();
     table::line("slots", ["plain", "compact", "ratio"].map(String::from));
     cases.into_iter().for_each(compile::slots);

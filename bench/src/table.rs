@@ -22,7 +22,11 @@ pub fn line(name: &str, cells: impl IntoIterator<Item = String>) {
 
 /// The cells that each group has.
 pub fn cells(case: &Case, ours: Duration, plain: Duration) -> Vec<String> {
-    let records = case.records() as f64;
+    cells_of(case.records() as f64, ours, plain)
+}
+
+/// The same for so many records.
+pub fn cells_of(records: f64, ours: Duration, plain: Duration) -> Vec<String> {
     vec![micros(ours), micros(plain), ratio(ours, plain), nanos(ours, records), nanos(plain, records)]
 }
 

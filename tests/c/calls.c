@@ -119,6 +119,27 @@ static void compact(void) {
     expect(words[2] == 1 && words[59] == 0 && words[60] == 7, "the compact program");
 }
 
+/* A plan of order 2 for sweeps. */
+static uint64_t swept(const uint32_t *plan, size_t plan_len, size_t work_len, size_t words_len, uint64_t out[3]) {
+    sevens(out);
+    return crout_compile_sweep(2, plan, plan_len, work, work_len, words, words_len, out);
+}
+
+static void sweep(void) {
+    const uint32_t plan[] = {1, 2, 3, 4}, without_2_1[] = {1, 3, 4};
+    const uint32_t positions[] = {1, 0, 2, 3, 7}, cleared[] = {0, 0, 0, 0, 7};
+    const uint32_t program[] = {2, 4, 0, 1, 10, 1, 0, 2, 11, 3, 2, 3, 12, 1, 0, 4, 8, 0, 0, 5,
+                                10, 2, 0, 6, 11, 2, 1, 7, 12, 4, 0, 8, 8, 0, 0, 0};
+    uint64_t out[3];
+    expect(swept(plan, 4, 3, 36, out) == refusal(2, 4) && same_numbers(out, 0, 0, 0) && work[0] == 7, "a sweep's work slice of 3");
+    expect(swept(plan, 3, 5, 36, out) == refusal(26, 2) && same_numbers(out, 0, 0, 0) && words[0] == 7, "a row without its diagonal");
+    expect(memcmp(work, cleared, sizeof cleared) == 0, "the work numbers after 26");
+    expect(swept(without_2_1, 3, 5, 31, out) == refusal(6, 8) && same_numbers(out, 0, 0, 0) && words[0] == 7, "a sweep's word slice of 31");
+    expect(memcmp(work, positions, sizeof positions) == 0, "the positions in the plan after 6");
+    expect(swept(plan, 4, 4, 37, out) == 0 && same_numbers(out, 0, 2, 9), "the sweep of order 2");
+    expect(memcmp(words, program, sizeof program) == 0 && words[36] == 7, "the program of the sweep of order 2");
+}
+
 #endif
 #if GROUPS >= 3
 
@@ -288,6 +309,34 @@ static void ran_compact(void) {
     expect(same_numbers(out, 1, 1, 0) && same_values(c, zeros, 1) && same_values(x, zeros, 2), "the slot that 17 names");
 }
 
+/* Runs the sweep of order 2 with all places. It has no C and no Y: pointers that aren't null, with lengths 0. */
+static uint64_t ran_sweep(const double *a, const double *b, double tolerance, uint64_t out[4]) {
+    const uint32_t plan[] = {1, 2, 3, 4};
+    uint64_t compiler[3];
+    expect(swept(plan, 4, 4, 36, compiler) == 0, "the sweep of order 2");
+    dirty();
+    return crout_run_limit(words, 36, a, 4, b, 2, tolerance, c, 0, y, 0, x, 2, out);
+}
+
+static void ran_sweeps(void) {
+    const double a[] = {4, 2, 1, 4}, b[] = {6, 9}, settled[] = {1.125, 1.6875};
+    const double growing[] = {1, -1, -1, 1}, ones[] = {1, 1}, last[] = {599, 600};
+    const double zero_diagonal[] = {1, 1, 1, -0.0}, one_and_zero[] = {1, 0}, zeros[] = {0, 0};
+    uint64_t out[4];
+    expect(ran_sweep(a, b, 0.5, out) == 0 && same_numbers(out, 4, 4, 0) && out[3] == 2, "two sweeps");
+    expect(same_values(x, settled, 2) && c[0] == 7 && y[0] == 7 && x[2] == 7, "the values of two sweeps");
+    expect(crout_run_limit(words, 36, a, 4, b, 2, 0.5, x, 0, x, 0, x, 2, out) == 0 && same_values(x, settled, 2), "x for c and y");
+    expect(ran_sweep(growing, ones, 0, out) == refusal(27, 0) && same_numbers(out, 0, 0, 0) && out[3] == 0, "27");
+    expect(same_values(x, last, 2), "the last X after 27");
+    dirty();
+    expect(crout_run(words, 36, growing, 4, ones, 2, c, 0, y, 0, x, 2, out) == refusal(27, 0), "27 of crout_run");
+    expect(same_numbers(out, 0, 0, 0) && same_values(x, last, 2), "the last X after 27 of crout_run");
+    expect(ran_sweep(zero_diagonal, one_and_zero, 0, out) == refusal(17, 7) && same_numbers(out, 3, 2, 0), "17 of a sweep");
+    expect(same_values(x, zeros, 2) && out[3] == 0 && c[0] == 7 && y[0] == 7, "X after 17 of a sweep");
+    expect(ran_sweep(a, b, -1, out) == refusal(21, 0) && x[0] == 7, "21 of a sweep");
+    expect(crout_run_limit(words, 36, a, 4, b, 2, 0.5, c, 0, y, 2, x, 2, out) == refusal(14, 0) && x[0] == 7, "a sweep has no Y");
+}
+
 static void document_002(void) {
     const double a[12] = {7, 2, -3, -3, -1, 8, -1, 1, 5, -2, 4, 6}, b[6] = {-11, 38, 0, 13, 11, -22};
     const double published[6] = {-1, 5, 0, 2, 4, -3};
@@ -307,6 +356,7 @@ int main(void) {
 #if GROUPS >= 2
     compile();
     compact();
+    sweep();
 #endif
 #if GROUPS >= 3
     written();
@@ -318,6 +368,7 @@ int main(void) {
     limits();
     vanished();
     ran_compact();
+    ran_sweeps();
     document_002();
 #endif
     return 0;

@@ -20,17 +20,22 @@ static void answers(void) {
     expect(crout_refusal(largest) == 19 && crout_detail(largest) == UINT32_MAX, "the largest detail", 19);
 }
 
+/* The numbers that no refusal has are said alike. */
+static int is_known(unsigned number) {
+    return strcmp(crout_refusal_text(number), crout_refusal_text(UINT32_MAX)) != 0;
+}
+
 static void texts(void) {
-    const unsigned unknown = CROUT_LIMIT + 1;
     unsigned k, other;
-    /* 0, the twenty-one refusals and the first unknown number: each is said, and no two alike */
-    for (k = 0; k <= unknown; k++) {
+    /* 0, the refusals 1 to 21, 26 and 27, and unknown numbers: each is said, and no two known ones alike */
+    for (k = 0; k <= 31; k++) {
         const char *text = crout_refusal_text(k);
         expect(strlen(text) > 20 && strchr(text, ':') != NULL && text[strlen(text) - 1] != '.', "a text", k);
+        expect(is_known(k) == (k <= CROUT_LIMIT || k == CROUT_DIAGONAL_MISSING || k == CROUT_UNSETTLED), "which numbers are known", k);
         for (other = 0; other < k; other++)
-            expect(strcmp(text, crout_refusal_text(other)) != 0, "a text that another number has too", k);
+            expect(!is_known(k) || strcmp(text, crout_refusal_text(other)) != 0, "a text that another number has too", k);
     }
-    expect(unknown == 22 && strcmp(crout_refusal_text(UINT32_MAX), crout_refusal_text(unknown)) == 0, "unknown numbers", unknown);
+    expect(CROUT_LIMIT == 21 && CROUT_DIAGONAL_MISSING == 26 && CROUT_UNSETTLED == 27, "the last numbers", 27);
 }
 
 int main(void) {

@@ -6,3 +6,4 @@ pub mod networks;
 pub mod programs;
 pub mod random;
 pub mod reading;
+pub mod verdict;

@@ -1,17 +1,30 @@
 //! Programs beside the compiler's own: random ones that pass the check, chains led round spare records, and damage.
 
 use crate::random::Random;
-use crate::reading::{compact, plan::compile};
+use crate::reading::{Refusal, compact, plan, plan::Written, sweep};
 
-/// The program of a plan by the reading's compiler, if no pivot is missing.
-pub fn compiled(n: u32, plan: &[u32]) -> Option<Vec<u32>> {
+/// A compiler of the reading: order, plan, work numbers and words.
+type Compiler = fn(u32, &[u32], &mut [u32], &mut [u32]) -> Result<Written, Refusal>;
+
+/// What a compiler that wants a work number for each place writes, if it accepts the plan.
+fn written(compiler: Compiler, n: u32, plan: &[u32]) -> Option<Vec<u32>> {
     let mut work = vec![0; (n * n) as usize];
-    let (6, records) = compile(n, plan, &mut work, &mut []).expect_err("no words are lent") else {
+    let (6, records) = compiler(n, plan, &mut work, &mut []).expect_err("no words are lent") else {
         return None;
     };
     let mut words = vec![0; 4 * records as usize];
-    compile(n, plan, &mut work, &mut words).expect("the plan is accepted");
+    compiler(n, plan, &mut work, &mut words).expect("the plan is accepted");
     Some(words)
+}
+
+/// The program of a plan by the reading's compiler, if no pivot is missing.
+pub fn compiled(n: u32, plan: &[u32]) -> Option<Vec<u32>> {
+    written(plan::compile, n, plan)
+}
+
+/// The program of sweeps by the reading's compiler of these, if every row has its diagonal place.
+pub fn swept(n: u32, plan: &[u32]) -> Option<Vec<u32>> {
+    written(sweep::compile, n, plan)
 }
 
 /// The same by the reading's compact compiler.
@@ -21,7 +34,7 @@ pub fn compacted(n: u32, plan: &[u32]) -> Option<Vec<u32>> {
     Some(words)
 }
 
-/// The program of one compiler or the other.
+/// The program of one Crout compiler or the other.
 pub fn of_either(n: u32, plan: &[u32], random: &mut Random) -> Option<Vec<u32>> {
     if random.chance(0.5) { compiled(n, plan) } else { compacted(n, plan) }
 }
@@ -35,6 +48,11 @@ pub fn in_order(head: [u32; 3], records: impl IntoIterator<Item = [u32; 3]>) -> 
     }
     words.push(0);
     words
+}
+
+/// A program's file.
+pub fn bytes_of(words: &[u32]) -> Vec<u8> {
+    words.iter().flat_map(|word| word.to_le_bytes()).collect()
 }
 
 /// The program with spare records full of junk put between, and its chain led round them.
@@ -56,7 +74,7 @@ pub fn spaced(words: &[u32], random: &mut Random) -> Vec<u32> {
 
 /// A word for a place that nobody reads: often one that could be a kind or an operand.
 fn junk(random: &mut Random) -> u32 {
-    if random.chance(0.5) { random.below(12) as u32 } else { random.next() as u32 }
+    if random.chance(0.5) { random.below(14) as u32 } else { random.next() as u32 }
 }
 
 /// How far a random program is: the slot opened last, the highest slot closed, and the closed entries of Y and X.
@@ -120,7 +138,7 @@ impl Closed {
     }
 }
 
-/// A random program that passes the check. Its formulas belong to no plan: C and Y open in any mixture, a slot again and again, and
+/// A random Crout program that passes the check. Its formulas belong to no plan: C and Y open in any mixture, a slot again and again, and
 /// each formula subtracts and divides as it likes.
 pub fn accepted(random: &mut Random) -> Vec<u32> {
     let n = up_to(6, random);
@@ -139,8 +157,26 @@ pub fn accepted(random: &mut Random) -> Vec<u32> {
     in_order([n, plan, slots], records)
 }
 
+/// A random program of sweeps that passes the check. Its rows belong to no plan: each subtracts and divides as it likes, with any
+/// coefficient as often as it likes and any entry of X, its own as well, and may do neither.
+pub fn accepted_sweep(random: &mut Random) -> Vec<u32> {
+    let n = up_to(6, random);
+    let plan = random.below((n * n) as usize + 1) as u32;
+    let most = random.below(6);
+    let mut records = vec![];
+    for row in 1..=n {
+        records.push([10, row, 0]);
+        for _ in 0..random.below(most + 1).min(plan as usize) {
+            let product = random.chance(0.7);
+            records.push(if product { [11, up_to(plan, random), up_to(n, random)] } else { [12, up_to(plan, random), 0] });
+        }
+        records.push([8, 0, 0]);
+    }
+    in_order([n, plan, 0], records)
+}
+
 fn other_kind(random: &mut Random) -> u32 {
-    if random.chance(0.9) { random.below(12) as u32 } else { random.next() as u32 }
+    if random.chance(0.9) { random.below(14) as u32 } else { random.next() as u32 }
 }
 
 fn other_operand(word: u32, random: &mut Random) -> u32 {

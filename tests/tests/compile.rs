@@ -1,9 +1,9 @@
-//! `crout_compile` and `crout_compile_compact` against the reading's compilers: the answer, the work numbers and the words, on slices
-//! that are dirty before the call and longer than they need be, just long enough, or too short.
+//! `crout_compile`, `crout_compile_compact` and `crout_compile_sweep` against the reading's compilers: the answer, the work numbers and
+//! the words, on slices that are dirty before the call and longer than they need be, just long enough, or too short.
 
 use crout_tests::calls::{
     Answer,
-    compile::{compile, compile_compact},
+    compile::{compile, compile_compact, compile_sweep},
 };
 use crout_tests::lent::Lent;
 use crout_tests::networks::{self, SHAPES};
@@ -13,16 +13,18 @@ use crout_tests::reading::{self, Refusal, plan::Written};
 /// A call that compiles: order, plan, work numbers and words.
 type Call<A> = fn(u32, &[u32], &mut [u32], &mut [u32]) -> A;
 
-/// A compiler of the library, the reading's, and how many squares of work numbers they need.
+/// A compiler of the library, the reading's, how many squares of work numbers they need, and their refusal of a plan that misses a place.
 struct Compiler {
     call: Call<Answer>,
     reading: Call<Result<Written, Refusal>>,
     squares: usize,
+    missing: u32,
 }
 
-const PLAIN: Compiler = Compiler { call: compile, reading: reading::plan::compile, squares: 1 };
-const COMPACT: Compiler = Compiler { call: compile_compact, reading: reading::compact::compile, squares: 4 };
-const BOTH: [Compiler; 2] = [PLAIN, COMPACT];
+const PLAIN: Compiler = Compiler { call: compile, reading: reading::plan::compile, squares: 1, missing: 5 };
+const COMPACT: Compiler = Compiler { call: compile_compact, reading: reading::compact::compile, squares: 4, missing: 5 };
+const SWEEP: Compiler = Compiler { call: compile_sweep, reading: reading::sweep::compile, squares: 1, missing: 26 };
+const ALL: [Compiler; 3] = [PLAIN, COMPACT, SWEEP];
 
 impl Compiler {
     /// The work numbers that a plan of an order needs.
@@ -125,26 +127,26 @@ fn every_plan(compiler: &Compiler, n: u32, random: &mut Random) -> Vec<u32> {
 #[test]
 fn every_plan_of_the_orders_up_to_4() {
     let random = &mut Random(2);
-    for compiler in &BOTH {
+    for (compiler, of_order_2) in ALL.iter().zip([[5, 8, 3], [5, 8, 3], [4, 8, 4]]) {
         assert_eq!(every_plan(compiler, 1, random), [1, 1]);
-        assert_eq!(every_plan(compiler, 2, random), [5, 8, 3]);
+        assert_eq!(every_plan(compiler, 2, random), of_order_2);
         every_plan(compiler, 3, random);
         every_plan(compiler, 4, random);
     }
 }
 
-/// Random plans of the orders up to 40: some are accepted, some miss a pivot.
+/// Random plans of the orders up to 40: some are accepted, some miss a place.
 fn random_plans(compiler: Compiler, seed: u64) {
     let random = &mut Random(seed);
     let (mut accepted, mut missing) = (0, 0);
     for (n, plan) in networks::plans(seed, 2500) {
         match compiler.compare_lengths(n, &plan, random).number() {
             0 => accepted += 1,
-            5 => missing += 1,
+            number if number == compiler.missing => missing += 1,
             other => panic!("refused by {other}: order {n}, plan {plan:?}"),
         }
     }
-    assert!(accepted > 1500 && missing > 200, "{accepted} accepted, {missing} miss a pivot");
+    assert!(accepted > 1500 && missing > 200, "{accepted} accepted, {missing} miss a place");
 }
 
 #[test]
@@ -168,13 +170,19 @@ fn more_random_plans_made_compact() {
 }
 
 #[test]
+fn random_plans_made_sweeps() {
+    random_plans(SWEEP, 3);
+    random_plans(SWEEP, 4);
+}
+
+#[test]
 fn networks_of_every_shape() {
     let random = &mut Random(5);
     for _ in 0..100 {
         for shape in SHAPES {
             let n = 1 + random.below(40) as u32;
             let plan = shape.plan(n, random);
-            for compiler in BOTH {
+            for compiler in ALL {
                 compiler.compare_lengths(n, &plan, random);
             }
         }
@@ -188,10 +196,13 @@ fn full_tables() {
         let (plan, [slots, products, records]) = (networks::full(n), full_table(n.into()));
         assert_eq!(PLAIN.compare_lengths(n, &plan, random), Answer::fine([slots, products, records]), "order {n}");
         assert_eq!(COMPACT.compare_lengths(n, &plan, random).out[1..], [products, records], "order {n}");
+        let square = u64::from(n * n);
+        let swept = [0, square - u64::from(n), 1 + 2 * u64::from(n) + square];
+        assert_eq!(SWEEP.compare_lengths(n, &plan, random), Answer::fine(swept), "order {n}");
     }
-    // its program would need more than a gigabyte
-    let [_, _, records] = full_table(600);
-    for compiler in BOTH {
+    // a Crout program would need more than a gigabyte
+    let [_, _, crout] = full_table(600);
+    for (compiler, records) in ALL.into_iter().zip([crout, crout, 1 + 2 * 600 + 600 * 600]) {
         assert_eq!(compiler.compare(600, &networks::full(600), compiler.work(600), 99, random), Answer::refused(6, records));
     }
 }
@@ -205,7 +216,7 @@ fn plans_of_order_128() {
         plans.push(networks::scattered(128, 0.97, density, random));
     }
     for plan in plans {
-        for compiler in BOTH {
+        for compiler in ALL {
             compiler.compare_lengths(128, &plan, random);
         }
     }
@@ -230,14 +241,14 @@ fn of_order_600(compiler: Compiler) {
     }
     let mut without = networks::three_diagonal(600);
     without.pop();
-    // the last pivot is fill, the first can't be
-    assert_eq!(compiler.compare(600, &without, work, 0, random).number(), 6);
-    assert_eq!(compiler.compare(600, &without[1..], work, 0, random), Answer::refused(5, 1));
+    // the last pivot is fill, which a sweep has not; the first can't be
+    assert_eq!(compiler.compare(600, &without, work, 0, random).number(), if compiler.missing == 5 { 6 } else { 26 });
+    assert_eq!(compiler.compare(600, &without[1..], work, 0, random), Answer::refused(compiler.missing, 1));
 }
 
 #[test]
 fn plans_of_order_600() {
-    BOTH.into_iter().for_each(of_order_600);
+    ALL.into_iter().for_each(of_order_600);
 }
 
 #[test]
@@ -247,7 +258,7 @@ fn orders_out_of_range() {
     for n in [0, 601, 602, 1000, 65_535, 65_536, 65_537, 1 << 31, u32::MAX] {
         for plan in [&[][..], &[1], &[0], &[2, 1]] {
             for work_len in [0, 1, 500] {
-                for compiler in BOTH {
+                for compiler in ALL {
                     assert_eq!(compiler.compare(n, plan, work_len, random.below(200), random), Answer::refused(1, 0));
                 }
             }
@@ -270,7 +281,7 @@ fn short_work(compiler: Compiler) {
 
 #[test]
 fn work_slices_too_short() {
-    BOTH.into_iter().for_each(short_work);
+    ALL.into_iter().for_each(short_work);
 }
 
 /// A label that is bad at this position of a rising plan, with its refusal.
@@ -304,7 +315,7 @@ fn bad_labels() {
         // what comes after the first bad label doesn't matter
         plan.extend((0..random.below(4)).map(|_| random.next() as u32));
         let words_len = random.below(300);
-        for compiler in BOTH {
+        for compiler in ALL {
             let answer = compiler.compare(n, &plan, compiler.work(n), words_len, random);
             assert_eq!(answer, Answer::refused(number, at as u64 + 1));
         }
@@ -319,27 +330,27 @@ fn a_plan_longer_than_the_table() {
     for n in 1..=12 {
         let mut plan = networks::full(n);
         plan.push(n * n);
-        for compiler in BOTH {
+        for compiler in ALL {
             assert_eq!(compiler.compare(n, &plan, 1600, 4000, random), Answer::refused(4, u64::from(n * n) + 1));
         }
         plan[(n * n) as usize] += 1;
-        for compiler in BOTH {
+        for compiler in ALL {
             assert_eq!(compiler.compare(n, &plan, 1600, 4000, random), Answer::refused(3, u64::from(n * n) + 1));
         }
     }
 }
 
 #[test]
-fn missing_pivots() {
+fn missing_places() {
     let random = &mut Random(13);
     let mut first = [0; 21];
     for _ in 0..4000 {
         let n = 1 + random.below(20) as u32;
         // no more fill than lets the later pivots be missing too
         let plan = networks::scattered(n, 1.0 - 1.0 / f64::from(n), 0.5 / f64::from(n), random);
-        for compiler in BOTH {
+        for compiler in ALL {
             let answer = compiler.compare(n, &plan, compiler.work(n) + random.below(5), random.below(3000), random);
-            if answer.number() == 5 {
+            if answer.number() == compiler.missing {
                 first[answer.detail() as usize] += 1;
             }
         }

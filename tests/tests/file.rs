@@ -6,21 +6,11 @@ use std::collections::BTreeSet;
 use crout_tests::calls::file::{check, read, write};
 use crout_tests::calls::{Answer, refused};
 use crout_tests::lent::Lent;
+use crout_tests::programs::bytes_of;
 use crout_tests::random::Random;
 use crout_tests::reading::{self, Refusal};
+use crout_tests::verdict::verdict;
 use crout_tests::{networks, programs};
-
-fn bytes_of(words: &[u32]) -> Vec<u8> {
-    words.iter().flat_map(|word| word.to_le_bytes()).collect()
-}
-
-/// The reading's verdict on a file, which is also the library's.
-fn verdict(file: &[u8]) -> Option<Refusal> {
-    let expected = reading::file::check_file(file).err();
-    let returned = expected.map_or(0, |(number, detail)| refused(number, detail));
-    assert_eq!(check(file), returned, "expected {expected:?} on a file of {} bytes", file.len());
-    expected
-}
 
 /// How often each refusal has been met, and with which details.
 #[derive(Default)]
@@ -204,7 +194,7 @@ fn likely_words(random: &mut Random) -> Vec<u32> {
     let mut words = vec![n, random.below(1 + (n * n) as usize) as u32, random.below(2 + n as usize) as u32, 1];
     for at in 1..records {
         let next = if random.chance(0.9) { at + 1 } else { random.below(records + 1) };
-        words.extend([random.below(11), random.below(3), random.below(3), next % records].map(|word| word as u32));
+        words.extend([random.below(14), random.below(3), random.below(3), next % records].map(|word| word as u32));
     }
     words
 }
@@ -230,7 +220,7 @@ const SMALLEST: [u32; 32] = [1, 1, 1, 1, 1, 1, 1, 2, 9, 0, 0, 3, 2, 1, 0, 4, 7, 
 fn every_two_words_of_the_smallest_program() {
     let mut pair = Pair::new(SMALLEST.to_vec(), &mut Random(24));
     let len = pair.len();
-    let others = [0, 1, 2, 3, 4, 5, 6, 7, 8, 9, 10, 1 << 31, u32::MAX];
+    let others = [0, 1, 2, 3, 4, 5, 6, 7, 8, 9, 10, 11, 12, 13, 1 << 31, u32::MAX];
     for one in 0..SMALLEST.len() {
         for two in 0..one {
             for word in others {
@@ -260,7 +250,7 @@ fn each_refusal_once() {
     assert_eq!(check(&file[..127]), refused(18, 0), "18 before 7");
     assert_eq!(check(&[]), refused(7, 0), "no words");
     assert_eq!(check(&file[..124]), refused(7, 0), "31 words");
-    for (index, word) in [(0, 0), (0, 601), (1, 2), (2, 0), (2, 2)] {
+    for (index, word) in [(0, 0), (0, 601), (1, 2), (2, 2)] {
         assert_eq!(smallest_with(index, word), refused(8, 0), "word {index} is {word}");
     }
     assert_eq!(smallest_with(3, 8), refused(9, 0), "first past the end");
@@ -270,6 +260,8 @@ fn each_refusal_once() {
     assert_eq!(smallest_with(31, 8), refused(9, 7), "next past the end");
     assert_eq!(smallest_with(4, 0), refused(10, 1), "kind 0");
     assert_eq!(smallest_with(8, 10), refused(10, 2), "kind 10");
+    assert_eq!(smallest_with(8, 13), refused(10, 2), "kind 13");
+    assert_eq!(smallest_with(2, 0), refused(10, 1), "kind 1 without slots");
     assert_eq!(smallest_with(14, 1), refused(10, 3), "an unused q");
     assert_eq!(smallest_with(29, 1), refused(10, 7), "an unused p");
     assert_eq!(smallest_with(4, 8), refused(10, 1), "10 comes before 11");
@@ -295,7 +287,7 @@ fn slots_used_again() {
     assert_eq!(check(1, &[1]), 0, "fewer slots than the order");
     assert_eq!(check(1, &[1, 1, 1]), 0, "the only slot again");
     assert_eq!(check(4, &[1, 2, 1, 3, 2, 4, 4, 1]), 0, "in any order up to one above the highest");
-    assert_eq!(check(0, &[]), refused(8, 0), "no slots");
+    assert_eq!(check(0, &[]), refused(10, 1), "no slots: kind 2 in a sweep");
     assert_eq!(check(5, &[1, 2, 3, 4, 5]), refused(8, 0), "more slots than places");
     assert_eq!(check(4, &[2]), refused(12, 1), "C(2) opens first");
     assert_eq!(check(4, &[1, 2, 1, 4]), refused(12, 7), "two above the highest closed");

@@ -553,7 +553,7 @@ fn each_position_of_a_value_that_is_not_finite() {
     }
 }
 
-/// A run of any program on values of any kind, with the lengths that its record 0 asks for if they can be had.
+/// A run of any Crout program on values of any kind, with the lengths that its record 0 asks for if they can be had.
 fn compare_program(words: &[u32], random: &mut Random) -> u32 {
     let values = VALUES[random.below(VALUES.len())];
     let [n, plan, s] = [words[0], words[1], words[2]].map(|len| len.min(2000) as usize);

@@ -37,8 +37,11 @@ fn check(words: usize, record: impl Fn(usize) -> [u32; 4]) -> Result<(), Refusal
         return Err((7, 0));
     }
     let [n, plan, slots, first] = record(0);
-    if !(1..=600).contains(&n) || plan > n * n || !(1..=n * n).contains(&slots) {
+    if !(1..=600).contains(&n) || plan > n * n || slots > n * n {
         return Err((8, 0));
+    }
+    if slots == 0 {
+        return check_sweep(records, record);
     }
     // the closed slots are those up to c, and slot is the one opened last
     let (mut open, mut slot, mut c, mut y, mut x) = (Open::None, 0, 0, 0, 0);
@@ -126,4 +129,67 @@ fn check(words: usize, record: impl Fn(usize) -> [u32; 4]) -> Result<(), Refusal
         }
     }
     if open == Open::None && c == slots && y == n && x == n { Ok(()) } else { Err((13, 0)) }
+}
+
+/// The chain of a program of sweeps, whose record 0 is fine.
+#[inline(always)]
+fn check_sweep(records: usize, record: impl Fn(usize) -> [u32; 4]) -> Result<(), Refusal> {
+    let [n, plan, _, first] = record(0);
+    // x entries are closed, and perhaps the next one is open
+    let (mut open, mut x) = (false, 0);
+    let (mut at, mut next) = (0, first as usize);
+    while next != 0 {
+        if next <= at || next >= records {
+            return Err((9, at as u64));
+        }
+        at = next;
+        let [kind, p, q, following] = record(at);
+        next = following as usize;
+        let refused = |number| Err((number, at as u64));
+        match kind {
+            10 => {
+                if q != 0 {
+                    return refused(10);
+                }
+                if open {
+                    return refused(11);
+                }
+                if p != x + 1 || p > n {
+                    return refused(12);
+                }
+                open = true;
+            }
+            11 => {
+                if !open {
+                    return refused(11);
+                }
+                if p == 0 || p > plan || q == 0 || q > n {
+                    return refused(12);
+                }
+            }
+            12 => {
+                if q != 0 {
+                    return refused(10);
+                }
+                if !open {
+                    return refused(11);
+                }
+                if p == 0 || p > plan {
+                    return refused(12);
+                }
+            }
+            8 => {
+                if p != 0 || q != 0 {
+                    return refused(10);
+                }
+                if !open {
+                    return refused(11);
+                }
+                open = false;
+                x += 1;
+            }
+            _ => return refused(10),
+        }
+    }
+    if !open && x == n { Ok(()) } else { Err((13, 0)) }
 }

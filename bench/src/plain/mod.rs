@@ -7,6 +7,7 @@ pub mod compile;
 pub mod dense;
 pub mod file;
 pub mod run;
+pub mod sweep;
 #[cfg(test)]
 mod tests;
 

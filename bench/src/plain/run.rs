@@ -1,10 +1,11 @@
-//! A run of a program: the checks, then the records.
+//! A run of a program: the checks, then the records, of a sweep again and again.
 
 use super::check::check_words;
+use super::sweep::sweep;
 
 #[derive(Clone, Copy, Debug, PartialEq, Eq)]
 pub enum Outcome {
-    Solved { products: u64, quotients: u64, vanished: u64 },
+    Solved { products: u64, quotients: u64, vanished: u64, sweeps: u64 },
     Stopped { number: u32, record: u64, table: u64, target: u64 },
     Refused { number: u32, detail: u64 },
 }
@@ -14,7 +15,8 @@ pub fn run(words: &[u32], a: &[f64], b: &[f64], limit: f64, c: &mut [f64], y: &m
         return Outcome::Refused { number, detail };
     }
     let [n, plan, slots] = [words[0] as usize, words[1] as usize, words[2] as usize];
-    if a.len() != plan || b.len() != n || c.len() != slots || y.len() != n || x.len() != n {
+    let y_len = if slots == 0 { 0 } else { n };
+    if a.len() != plan || b.len() != n || c.len() != slots || y.len() != y_len || x.len() != n {
         return Outcome::Refused { number: 14, detail: 0 };
     }
     let not_finite = |values: &[f64]| values.iter().position(|value| !value.is_finite());
@@ -24,7 +26,7 @@ pub fn run(words: &[u32], a: &[f64], b: &[f64], limit: f64, c: &mut [f64], y: &m
     if !(limit.is_finite() && limit >= 0.0) {
         return Outcome::Refused { number: 21, detail: 0 };
     }
-    let outcome = follow(words, a, b, limit, c, y, x);
+    let outcome = if slots == 0 { sweep(words, a, b, limit, x) } else { follow(words, a, b, limit, c, y, x) };
     if let Outcome::Stopped { .. } = outcome {
         c.fill(0.0);
         y.fill(0.0);
@@ -95,5 +97,5 @@ fn follow(words: &[u32], a: &[f64], b: &[f64], limit: f64, c: &mut [f64], y: &mu
         }
         at = record[3] as usize;
     }
-    Outcome::Solved { products, quotients, vanished }
+    Outcome::Solved { products, quotients, vanished, sweeps: 0 }
 }

@@ -58,20 +58,30 @@ fn the_same_compact_compiler_on_networks() {
     }
 }
 
-/// Programs of all kinds, most of them damaged.
-fn program(random: &mut Random) -> Vec<u32> {
+/// Crout programs of all kinds, most of them damaged.
+fn crout_program(random: &mut Random) -> Vec<u32> {
     let n = 1 + random.below(8) as u32;
     let compiled = programs::of_either(n, &networks::any(n, random), random);
-    let mut words = compiled.unwrap_or_else(|| programs::accepted(random));
+    damaged(compiled.unwrap_or_else(|| programs::accepted(random)), random)
+}
+
+/// The same of sweeps.
+fn sweep_program(random: &mut Random) -> Vec<u32> {
+    let n = 1 + random.below(8) as u32;
+    let compiled = programs::swept(n, &networks::any(n, random));
+    damaged(compiled.unwrap_or_else(|| programs::accepted_sweep(random)), random)
+}
+
+fn damaged(mut words: Vec<u32>, random: &mut Random) -> Vec<u32> {
     for _ in 0..random.below(3) {
         programs::change(&mut words, random);
     }
     words
 }
 
-#[test]
-fn the_same_checker() {
-    let random = &mut Random(2);
+/// Both checkers on programs of one kind.
+fn compare_checkers(program: fn(&mut Random) -> Vec<u32>, seed: u64) {
+    let random = &mut Random(seed);
     for _ in 0..50_000 {
         let words = program(random);
         let mut file: Vec<u8> = words.iter().flat_map(|word| word.to_le_bytes()).collect();
@@ -81,6 +91,12 @@ fn the_same_checker() {
         assert_eq!(check::check_file(&file), reading::file::check_file(&file), "{words:?}");
         assert_eq!(check::check_words(&words), reading::check::check(&words), "{words:?}");
     }
+}
+
+#[test]
+fn the_same_checker() {
+    compare_checkers(crout_program, 2);
+    compare_checkers(sweep_program, 8);
 }
 
 #[test]
@@ -107,22 +123,24 @@ fn bits(tables: &[Vec<f64>; 3]) -> Vec<u64> {
 fn outcome(read: reading::run::Outcome) -> run::Outcome {
     use reading::run::Outcome::*;
     match read {
-        Solved { products, quotients, vanished } => run::Outcome::Solved { products, quotients, vanished },
+        Solved { products, quotients, vanished, sweeps } => run::Outcome::Solved { products, quotients, vanished, sweeps },
         Stopped { number, record, table, target } => run::Outcome::Stopped { number, record, table, target },
         Refused { number, detail } => run::Outcome::Refused { number, detail },
     }
 }
 
-#[test]
-fn the_same_runner() {
-    let random = &mut Random(3);
+/// Both runners on programs of one kind; the numbers of the refusals that they met, 0 for none.
+fn compare_runners(program: fn(&mut Random) -> Vec<u32>, seed: u64) -> BTreeSet<u32> {
+    let random = &mut Random(seed);
+    let mut met = BTreeSet::new();
     for _ in 0..50_000 {
         let words = program(random);
         let values = VALUES[random.below(VALUES.len())];
         let [n, plan, s] = [words[0], words[1], words[2]].map(|len| len.min(2000) as usize);
         let (mut a, b) = (values.row(plan, random), values.row(n, random));
         a.iter_mut().take(1).filter(|_| random.chance(0.02)).for_each(|value| *value = f64::NAN);
-        let mut tables = [vec![7.0; s], vec![7.0; n], vec![7.0; n + usize::from(random.chance(0.02))]];
+        let y_len = if s == 0 { 0 } else { n };
+        let mut tables = [vec![7.0; s], vec![7.0; y_len], vec![7.0; n + usize::from(random.chance(0.02))]];
         let mut read_tables = tables.clone();
         let [c, y, x] = &mut tables;
         let limit = networks::any_limit(&a, random);
@@ -130,7 +148,22 @@ fn the_same_runner() {
         let [c, y, x] = &mut read_tables;
         assert_eq!(answer, outcome(reading::run::run(&words, &a, &b, limit, c, y, x)), "{words:?} {a:?} {b:?} {limit:e}");
         assert_eq!(bits(&tables), bits(&read_tables), "{words:?} {a:?} {b:?} {limit:e}");
+        met.insert(match answer {
+            run::Outcome::Solved { .. } => 0,
+            run::Outcome::Stopped { number, .. } | run::Outcome::Refused { number, .. } => number,
+        });
     }
+    met
+}
+
+#[test]
+fn the_same_runner() {
+    assert_eq!(compare_runners(crout_program, 3), BTreeSet::from([0, 8, 9, 10, 11, 12, 13, 14, 15, 16, 17, 21]));
+}
+
+#[test]
+fn the_same_sweeps() {
+    assert_eq!(compare_runners(sweep_program, 9), BTreeSet::from([0, 8, 9, 10, 11, 12, 13, 14, 15, 16, 17, 21, 27]));
 }
 
 /// The rows of dense Crout's table and x as the reading has them: l and u by label, y and x.

@@ -1,9 +1,10 @@
-// One float operation, and how a value is read: document 01, "Dense Crout" and "Running"; document 02, A.1 and A.5.
+// One float operation, and how a value is read: document 01, "Dense Crout" and "Running"; document 02, A.1, A.5 and A.7.
 // Each result is compared with the definition's bit for bit.
 ghost use mathlib.Core.Path.{_≡_};
 ghost use mathlib.Core.Bool.{false, cond, _&&_};
 ghost use Rattle.model.specs.Arith as model;
 ghost use Rattle.model.specs.Formula as formula;
+ghost use Rattle.model.specs.Sweep.{movesMore};
 ghost use Rattle.arith.specs.Answer.{answerOf, hasVanished};
 
 // What one operation gives. A number that a product of two nonzero factors went into as zero has a case of its own: that product vanished.
@@ -126,5 +127,16 @@ pub fn less(acc: f64, a: f64, b: f64) -> Operation
         answer(acc - product)
     } else {
         product_answer(acc + read(-product), a, b)
+    }
+}
+
+// Whether an entry moves by more than the limit: new - old, rounded once; an overflow is more.
+pub fn moves_more(limit: f64, old: f64, new: f64) -> bool
+    ensures { λ r. ⌜ r ≡ movesMore limit old new ⌝ }
+{
+    match difference(new, old) {
+        Operation::Number(by) | Operation::Vanished(by) => !is_small(limit, by),
+        Operation::Overflow => true,
+        Operation::ZeroDivisor => true,
     }
 }

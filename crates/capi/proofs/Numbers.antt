@@ -21,7 +21,7 @@ carried number numbers same (r, out) = (r ∙ ap number same, out ∙ ap numbers
 
 -- release 1's three numbers of a run are the first two of the four, and 0
 pub first-two : (v : Reply) → getD (limitNumbers v) 0 0 ∷ getD (limitNumbers v) 1 0 ∷ 0 ∷ [] ≡ replyNumbers v
-first-two (solves p q g) = refl
+first-two (solves p q g k) = refl
 first-two (stops r k t n) = refl
 first-two (refuses r d) = refl
 
@@ -35,7 +35,7 @@ compiled-fits {v = written s p r} same small h = rw same (omega arith)
 compiled-fits {v = Compile.refusal r d} same small h = rw same (omega arith)
 
 pub reply-fits : {b : ℕ} {answer v : Reply} → answer ≡ v → SmallReply b v → b ≤ 2 ^ 63 → replyNumber answer < 2 ^ 64
-reply-fits {v = solves p q g} same small h = rw same (omega arith)
+reply-fits {v = solves p q g k} same small h = rw same (omega arith)
 reply-fits {v = stops r k t n} same small h = rw same (omega arith)
 reply-fits {v = refuses r d} same small h = rw same (omega arith)
 

@@ -56,8 +56,8 @@ pub fn file_answer(answer: Filing, out: &mut [u64; 3]) -> u64
     }
 }
 
-// A run's answer: products, quotients and products that vanished; after 16 and 17 the table and the target's number, the record being
-// the detail.
+// A run's answer: products, quotients, products that vanished and sweeps; after 16 and 17 the table and the target's number, the record
+// being the detail.
 pub fn limit_answer(answer: Outcome, out: &mut [u64; 4]) -> u64
     requires { ⌜ replyNumber (replyOf answer) < 2 ^ 64 ⌝ }
     ensures { λ r. ⌜ (r ≡ replyNumber (replyOf answer)) × (now (out .exit) ≡ limitNumbers (replyOf answer)) ⌝ }
@@ -67,8 +67,9 @@ pub fn limit_answer(answer: Outcome, out: &mut [u64; 4]) -> u64
             products,
             quotients,
             vanished,
+            sweeps,
         } => {
-            *out = [products as u64, quotients as u64, vanished as u64, 0];
+            *out = [products, quotients, vanished, sweeps];
             0
         }
         Outcome::Stopped {

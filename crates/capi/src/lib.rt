@@ -1,4 +1,4 @@
-// The functions exported for C: document 01, "The C boundary"; document 02, A.1 and A.11. The header is include/crout.h.
+// The functions exported for C: document 01, "The C boundary"; document 02, A.1, A.7 and A.11. The header is include/crout.h.
 mod answers;
 
 use answers::compile_answer;
@@ -11,7 +11,7 @@ use labels::Located;
 ghost use mathlib.Core.Path.{_≡_};
 ghost use lib.ListN.{length};
 ghost use Rattle.model.specs.Arith.{plusZero};
-ghost use Rattle.model.specs.Compile.{compact, compiles, workAfter, compilesBy, workAfterBy, wordsAfterBy};
+ghost use Rattle.model.specs.Compile.{compact, sweep, compiles, workAfter, compilesBy, workAfterBy, wordsAfterBy};
 ghost use Rattle.model.specs.Compile.{wordsAfter as Compile·wordsAfter};
 ghost use Rattle.model.specs.Formula.{C, Y, X};
 ghost use Rattle.model.specs.Run.{ran, reply, leaves};
@@ -75,6 +75,24 @@ pub extern "C" fn crout_compile_compact(
     compile_answer(compiler::compile_compact(n, plan, work, words), out)
 }
 
+// The same by the sweep's compiler: Gauss-Seidel for the plan. out: 0, products of a sweep, records.
+#[no_mangle]
+pub extern "C" fn crout_compile_sweep(
+    n: u32,
+    plan: &[u32],
+    work: &mut [u32],
+    words: &mut [u32],
+    out: &mut [u64; 3],
+) -> u64
+    ensures answer { λ r. ⌜ r ≡ compiledNumber (compilesBy sweep n (now (plan .entry)) (length (now (work .entry))) (length (now (words .entry)))) ⌝ }
+    ensures work { λ r. ⌜ now (work .exit) ≡ workAfterBy sweep n (now (plan .entry)) (now (work .entry)) (length (now (words .entry))) ⌝ }
+    ensures words { λ r. ⌜ now (words .exit) ≡ wordsAfterBy sweep n (now (plan .entry)) (length (now (work .entry))) (now (words .entry)) ⌝ }
+    ensures numbers { λ r. ⌜ now (out .exit)
+        ≡ compiledNumbers (compilesBy sweep n (now (plan .entry)) (length (now (work .entry))) (length (now (words .entry)))) ⌝ }
+{
+    compile_answer(compiler::compile_sweep(n, plan, work, words), out)
+}
+
 // Checks a program file's bytes: 18, then 7 to 13.
 #[no_mangle]
 pub extern "C" fn crout_check(file: &[u8]) -> u64
@@ -106,8 +124,8 @@ pub extern "C" fn crout_read(bytes: &[u8], words: &mut [u32], out: &mut [u64; 3]
     file_answer(codec::read_file(bytes, words), out)
 }
 
-// Runs a program: a pivot l is refused where -limit <= l <= limit. out: products, quotients, products that vanished, 0; after 16 and 17 the
-// table, the target's number, 0, 0.
+// Runs a program: a pivot l is refused where -limit <= l <= limit; with s = 0 the limit is the tolerance of a sweep. out: products,
+// quotients, products that vanished, sweeps; after 16 and 17 the table, the target's number, 0, 0.
 #[no_mangle]
 pub extern "C" fn crout_run_limit(
     words: &[u32],

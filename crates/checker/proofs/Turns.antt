@@ -9,7 +9,7 @@ use lib.ListN.{length}
 use borrow.Author.Tests.{eq-eqb, ne-eqb}
 use Rattle.model.specs.Check as Check
 use Rattle.model.specs.Check.{word, recordAt, nextOf, whole, broken, Link, End, Chain, Verdict, refusal}
-use Rattle.model.specs.Check.{kindOf, formed, inOrder, inTurn, onward, atEnd, checkLinks}
+use Rattle.model.specs.Check.{kindOf, belongs, formed, inOrder, allowed, onward, atEnd, checkLinks}
 use Rattle.model.proofs.Following.{chainFrom, chain-from, chain-ends, chain-breaks, chain-goes, check-ended, check-link}
 use Rattle.progress.specs.declared.Head.{Head}
 use Rattle.progress.specs.declared.Progress.{Progress}
@@ -59,12 +59,13 @@ pub record Turn (h : Head) (W : List ℕ) (g : Progress) (k n r : ℕ) : Type 0 
 -- the check of a chain is its first record's, and then the rest
 link-judged : (N n s : ℕ) (g : Check.Progress) (l : Link) (ls : List Link) (e : End) → let k = kindOf (l .at .kind) in
     checkLinks N n s g (l ∷ ls) e
-    ≡ unless (firstOf (formed k (l .at .p) (l .at .q)) (inOrder k (g .target)) (inTurn N n s k (l .at .p) (l .at .q) g)) (l .index)
+    ≡ unless (firstOf (belongs s (l .at .kind) && formed k (l .at .p) (l .at .q)) (inOrder k (g .target)) (allowed N n s k (l .at .p) (l .at .q) g)) (l .index)
     (checkLinks N n s (onward k (l .at .p) (l .at .q) g) ls e)
 unfolding firstOf
 link-judged N n s g l ls e =
     let k = kindOf (l .at .kind) in
-    check-link N n s g l ls e ∙ step (formed k (l .at .p) (l .at .q)) (inOrder k (g .target)) (inTurn N n s k (l .at .p) (l .at .q) g)
+    let ten = belongs s (l .at .kind) && formed k (l .at .p) (l .at .q) in
+    check-link N n s g l ls e ∙ step ten (inOrder k (g .target)) (allowed N n s k (l .at .p) (l .at .q) g)
   where
     step : (f o t : Bool) → elim f [
       | false ↦ refusal 10 (l .index)

@@ -1,4 +1,4 @@
-// A program's words, or a file's bytes, against checks 7 to 13: document 01, "Where each refusal is checked"; document 02, A.11.
+// A program's words, or a file's bytes, against checks 7 to 13: document 01, "Where each refusal is checked"; document 02, A.7 and A.11.
 // One pass, no memory.
 use numbers::wide;
 use numbers::within;
@@ -91,12 +91,12 @@ fn head_of(r: Record) -> Head
     }
 }
 
-// 8: N in 1..600, n at most N², s in 1..N².
+// 8: N in 1..600, n and s at most N²; s is 0 in a sweep (A.7).
 fn head_fits(h: Head) -> bool
     ensures { λ r. ⌜ r ≡ eight (h .order) (h .coefficients) (h .slots) ⌝ }
 {
     let n = h.order;
-    within(n, 600) && (h.coefficients <= n * n && (1 <= h.slots && h.slots <= n * n))
+    within(n, 600) && (h.coefficients <= n * n && h.slots <= n * n)
 }
 
 // The records along the chain, and its end. In the inner loop each is the one that follows the last, so that it is read without waiting

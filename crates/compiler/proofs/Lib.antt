@@ -3,5 +3,6 @@ pub mod Numbers
 pub mod Parts
 pub mod Copied
 pub mod Compacted
-pub mod Wanted
+pub mod Compilers
 pub mod Ending
+pub mod Sweeping

@@ -1,14 +1,22 @@
 -- The compiler's answer as the model's: document 01's slots, product count and records, or its refusal's number and detail. Definitions only.
 use mathlib.Core.Bool.{Bool, true, false}
-use Rattle.model.specs.Compile.{Compiled, written, refusal, Compiler, plain, compact}
+use Rattle.model.specs.Compile.{Compiled, written, refusal, Compiler, plain, compact, sweep}
 use Rattle.compiler.specs.declared.Compilation.{Compilation}
 use Rattle.compiler.specs.declared.Compilation.the-variants.{Written, Refused}
+use Rattle.compiler.specs.declared.Method.{Method}
+use Rattle.compiler.specs.declared.Method.the-variants.{Plain, Compact, Sweep}
 
 abbrev pub compiledOf : Compilation → Compiled
 compiledOf (Written slots products records) = written slots products records
 compiledOf (Refused number detail) = refusal number detail
 
--- whether slots are used again
-abbrev pub compilerOf : Bool → Compiler
-compilerOf false = plain
-compilerOf true = compact
+-- the model's compiler of each program
+abbrev pub compilerOf : Method → Compiler
+compilerOf Plain = plain
+compilerOf Compact = compact
+compilerOf Sweep = sweep
+
+-- Crout's, by whether slots are used again
+abbrev pub croutOf : Bool → Compiler
+croutOf false = plain
+croutOf true = compact

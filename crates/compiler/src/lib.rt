@@ -1,10 +1,12 @@
-// The compiler: document 01, "Fill and slots", "Records" and checks 1 to 6; document 02, A.11.
+// The compiler: document 01, "Fill and slots", "Records" and checks 1 to 6; document 02, A.7 and A.11.
 mod checks;
+mod sweeps;
 
 use checks::Judged;
 use numbers::wide;
 use numbers::within;
 use slots::Filled;
+use sweeps::compile_rows;
 ghost use mathlib.Core.Path.{_≡_};
 ghost use mathlib.Core.Bool.{true};
 ghost use mathlib.Core.List.{List, _++_};
@@ -14,12 +16,13 @@ ghost use lib.Seq.{paste};
 ghost use Rattle.model.specs.Label.{isOrder};
 ghost use Rattle.model.specs.Fill.{missing, recordCount};
 ghost use Rattle.model.specs.Compact.{compactSlots, compacted};
-ghost use Rattle.model.specs.Compile.{judged, good, wanted, compact, workWith, compiles, workAfter, wordsAfter};
+ghost use Rattle.model.specs.Compile.{judged, good, compact, sweep, workWith, compiles, workAfter, wordsAfter};
 ghost use Rattle.model.specs.Compile.{compilesBy, workAfterBy, wordsAfterBy};
+ghost use Rattle.model.specs.Compile.{wanted as Compile·wanted};
 ghost use Rattle.model.specs.Compile.{spare as Compile·spare};
 ghost use Rattle.model.proofs.Compiles.{Ends};
 ghost use Rattle.writer.specs.Prepared.{Prepared};
-ghost use Rattle.compiler.specs.Compilation.{compiledOf, compilerOf};
+ghost use Rattle.compiler.specs.Compilation.{compiledOf, compilerOf, croutOf};
 ghost use Rattle.compiler.specs.Slotted.{Slotted, SomeSlotted};
 
 // What the compiler answers: the slots, the product count and the records of the program written, or a refusal's number and its detail.
@@ -35,13 +38,20 @@ pub enum Compilation {
     },
 }
 
+// Which program is written: Crout's, Crout's with slots used again, or a sweep.
+enum Method {
+    Plain,
+    Compact,
+    Sweep,
+}
+
 // Compiles a plan of order n. On success the program is the first four times records words.
 pub fn compile(n: u32, plan: &[u32], work: &mut [u32], words: &mut [u32]) -> Compilation
     ensures answer { λ r. ⌜ compiledOf r ≡ compiles n (now (plan .entry)) (length (now (work .entry))) (length (now (words .entry))) ⌝ }
     ensures work { λ r. ⌜ now (work .exit) ≡ workAfter n (now (plan .entry)) (now (work .entry)) (length (now (words .entry))) ⌝ }
     ensures words { λ r. ⌜ now (words .exit) ≡ wordsAfter n (now (plan .entry)) (length (now (work .entry))) (now (words .entry)) ⌝ }
 {
-    compile_by(n, plan, work, words, false)
+    compile_by(n, plan, work, words, Method::Plain)
 }
 
 // The second compiler: the same program with slots used again, so that s is the largest number of values alive at any record. Check 2 wants
@@ -51,12 +61,28 @@ pub fn compile_compact(n: u32, plan: &[u32], work: &mut [u32], words: &mut [u32]
     ensures work { λ r. ⌜ now (work .exit) ≡ workAfterBy compact n (now (plan .entry)) (now (work .entry)) (length (now (words .entry))) ⌝ }
     ensures words { λ r. ⌜ now (words .exit) ≡ wordsAfterBy compact n (now (plan .entry)) (length (now (work .entry))) (now (words .entry)) ⌝ }
 {
-    compile_by(n, plan, work, words, true)
+    compile_by(n, plan, work, words, Method::Compact)
 }
 
-// Either of them.
-fn compile_by(n: u32, plan: &[u32], work: &mut [u32], words: &mut [u32], again: bool) -> Compilation
-    ensures { λ r. ⌜ Ends (compilerOf again) n (now (plan .entry)) (now (work .entry)) (now (words .entry))
+// The compiler of sweeps: document 02, A.7. 26, in the place of 5, names the first row without a diagonal coefficient. After 6 and success work number K
+// is the position of label K in the plan, 0 where it isn't there.
+pub fn compile_sweep(n: u32, plan: &[u32], work: &mut [u32], words: &mut [u32]) -> Compilation
+    ensures answer { λ r. ⌜ compiledOf r ≡ compilesBy sweep n (now (plan .entry)) (length (now (work .entry))) (length (now (words .entry))) ⌝ }
+    ensures work { λ r. ⌜ now (work .exit) ≡ workAfterBy sweep n (now (plan .entry)) (now (work .entry)) (length (now (words .entry))) ⌝ }
+    ensures words { λ r. ⌜ now (words .exit) ≡ wordsAfterBy sweep n (now (plan .entry)) (length (now (work .entry))) (now (words .entry)) ⌝ }
+{
+    compile_by(n, plan, work, words, Method::Sweep)
+}
+
+// Any of them.
+fn compile_by(
+    n: u32,
+    plan: &[u32],
+    work: &mut [u32],
+    words: &mut [u32],
+    method: Method,
+) -> Compilation
+    ensures { λ r. ⌜ Ends (compilerOf method) n (now (plan .entry)) (now (work .entry)) (now (words .entry))
         (compiledOf r) (now (work .exit)) (now (words .exit)) ⌝ }
 {
     if !within(n, 600) {
@@ -65,7 +91,7 @@ fn compile_by(n: u32, plan: &[u32], work: &mut [u32], words: &mut [u32], again: 
             detail: 0,
         };
     }
-    let wanted = n * n + spare(n, again);
+    let wanted = wanted(n, method);
     if work.len() < wide(wanted) {
         return Compilation::Refused {
             number: 2,
@@ -77,16 +103,21 @@ fn compile_by(n: u32, plan: &[u32], work: &mut [u32], words: &mut [u32], again: 
             number,
             detail: position,
         },
-        Judged::Good => compile_good(n, plan, work, words, again),
+        Judged::Good => compile_good(n, plan, work, words, method),
     }
 }
 
-// The work numbers past the first n² that the compiler uses.
-fn spare(n: u32, again: bool) -> u32
+// The work numbers that check 2 wants.
+fn wanted(n: u32, method: Method) -> u32
     requires { ⌜ n ≤ 600 ⌝ }
-    ensures { λ r. ⌜ r ≡ Compile·spare (compilerOf again) n ⌝ }
+    ensures { λ r. ⌜ r ≡ Compile·wanted (compilerOf method) n ⌝ }
 {
-    if again { 3 * (n * n) } else { 0 }
+    let square = n * n;
+    match method {
+        Method::Plain => square,
+        Method::Compact => 4 * square,
+        Method::Sweep => square,
+    }
 }
 
 // The same for a plan that checks 1 to 4 let through.
@@ -95,10 +126,29 @@ fn compile_good(
     plan: &[u32],
     work: &mut [u32],
     words: &mut [u32],
+    method: Method,
+) -> Compilation
+    requires { ⌜ (isOrder n ≡ true) × ((judged n 0 1 (now plan) ≡ good) × (Compile·wanted (compilerOf method) n ≤ length (now work))) ⌝ }
+    ensures { λ r. ⌜ Ends (compilerOf method) n (now (plan .entry)) (now (work .entry)) (now (words .entry))
+        (compiledOf r) (now (work .exit)) (now (words .exit)) ⌝ }
+{
+    match method {
+        Method::Plain => compile_crout(n, plan, work, words, false),
+        Method::Compact => compile_crout(n, plan, work, words, true),
+        Method::Sweep => compile_rows(n, plan, work, words),
+    }
+}
+
+// Crout: 5, 6 and the records, from the slots, which are used again or not.
+fn compile_crout(
+    n: u32,
+    plan: &[u32],
+    work: &mut [u32],
+    words: &mut [u32],
     again: bool,
 ) -> Compilation
-    requires { ⌜ (isOrder n ≡ true) × ((judged n 0 1 (now plan) ≡ good) × (wanted (compilerOf again) n ≤ length (now work))) ⌝ }
-    ensures { λ r. ⌜ Ends (compilerOf again) n (now (plan .entry)) (now (work .entry)) (now (words .entry))
+    requires { ⌜ (isOrder n ≡ true) × ((judged n 0 1 (now plan) ≡ good) × (Compile·wanted (croutOf again) n ≤ length (now work))) ⌝ }
+    ensures { λ r. ⌜ Ends (croutOf again) n (now (plan .entry)) (now (work .entry)) (now (words .entry))
         (compiledOf r) (now (work .exit)) (now (words .exit)) ⌝ }
 {
     let mut rows = [601u32; 601];
@@ -116,6 +166,14 @@ fn compile_good(
     compile_filled(n, plan, work, &rows, &columns, words, filled, again)
 }
 
+// The work numbers past the first n² that Crout's compiler uses.
+fn spare(n: u32, again: bool) -> u32
+    requires { ⌜ n ≤ 600 ⌝ }
+    ensures { λ r. ⌜ r ≡ Compile·spare (croutOf again) n ⌝ }
+{
+    if again { 3 * (n * n) } else { 0 }
+}
+
 // The same once the slots stand in the work numbers and no pivot is missing.
 fn compile_filled(
     n: u32,
@@ -127,11 +185,11 @@ fn compile_filled(
     filled: Filled,
     again: bool,
 ) -> Compilation
-    requires { ⌜ SomeSlotted (compilerOf again) n (now plan) (now work) (now rows) (now columns) filled ⌝ }
+    requires { ⌜ SomeSlotted again n (now plan) (now work) (now rows) (now columns) filled ⌝ }
     requires { ⌜ filled .missing ≡ 0 ⌝ }
     ensures { λ r. ⌜ ((before : List ℕ)
-        → Slotted (compilerOf again) n (now (plan .entry)) before (now (work .entry)) (now (rows .entry)) (now (columns .entry)) filled
-        → Ends (compilerOf again) n (now (plan .entry)) before (now (words .entry)) (compiledOf r) (now (work .exit)) (now (words .exit))) ⌝ }
+        → Slotted again n (now (plan .entry)) before (now (work .entry)) (now (rows .entry)) (now (columns .entry)) filled
+        → Ends (croutOf again) n (now (plan .entry)) before (now (words .entry)) (compiledOf r) (now (work .exit)) (now (words .exit))) ⌝ }
 {
     let products = filled.products;
     let records = record_count(n, filled.slots, products, filled.above);

@@ -13,24 +13,26 @@ use Rattle.model.specs.Check.{chain}
 use Rattle.model.specs.Run.{fresh, follow, followed, ran}
 use Rattle.model.specs.Agreement.{Accepted, whole, seen, compressed, Agrees}
 use Rattle.model.proofs.Within.{within-range}
-use Rattle.model.proofs.Runs.{runs-open, finite-fine, lengths-right}
+use Rattle.model.proofs.Runs.{doneBy, runs-open, finite-fine, lengths-right}
 use Rattle.model.proofs.Tally.{productsOf, quotientsOf}
 use Rattle.model.proofs.Machine.{machine, reduced-started, shown}
 use Rattle.model.proofs.Reduction.{squeezed, reduced-is-dense, solved-packed}
 use Rattle.model.proofs.Counts.{products-counted, quotients-counted}
 use Rattle.model.proofs.Chain.{program-chain}
-use Rattle.model.proofs.Checked.{program-fine}
+use Rattle.model.proofs.Checked.{slots-some, program-fine}
 
 module _ {N : ℕ} {L : Plan} {A B : List Float} {limit : Float} (accepted : Accepted N L A B limit) where
   open Accepted accepted using (given, pivots)
 
   -- the checks before the first record let the run through
   pub runs : ran (compiled N L) A B limit (slots N L) N N ≡ followed (follow A B limit (fresh N) (chain (compiled N L) .links))
-  unfolding compiled
+  unfolding compiled doneBy
   runs =
+      let crout = slots-some N L (given .order) pivots in
       runs-open (compiled N L) A B limit (slots N L) N N (program-fine N L (given .order) (given .labels) pivots)
-      (lengths-right N (length L) (slots N L) _ _ _ _ _ (given .lengthA) (given .lengthB) refl refl refl)
+      (lengths-right N (length L) (slots N L) _ _ _ _ _ (given .lengthA) (given .lengthB) refl (rw crout) refl)
       (finite-fine A B limit (record { finiteA = given .finiteA; finiteB = given .finiteB; limited = given .limited }))
+      ∙ ap (doneBy (compiled N L) A B limit) crout
 
   -- the run's ending is that of the reduced formulas, with the plan's counts
   follows : seen (ran (compiled N L) A B limit (slots N L) N N) ≡ shown (productCount N L) (N + above N L) (squeezed N L (dense N L A B limit))
@@ -44,7 +46,7 @@ module _ {N : ℕ} {L : Plan} {A B : List Float} {limit : Float} (accepted : Acc
 
   shows : (e : Ended) → dense N L A B limit ≡ e → shown (productCount N L) (N + above N L) (squeezed N L e) ≡ compressed N L e
   unfolding shown squeezed compressed
-  shows (solved t g) e = ap (λ u. whole u (productCount N L) (N + above N L) g) (solved-packed given t g e)
+  shows (solved t g) e = ap (λ u. whole u (productCount N L) (N + above N L) g 0) (solved-packed given t g e)
   shows (refused r C k) e = refl
   shows (refused r Y k) e = refl
   shows (refused r X k) e = refl

@@ -2,17 +2,17 @@
 use Prim.Native.Nat.{ℕ, suc, _+_, _≤_, _<_, max}
 use native.Mathlib.Omega.{arith}
 use mathlib.Core.Path.{_≡_, refl, sym, ap}
-use mathlib.Core.Bool.{true, _&&_}
+use mathlib.Core.Bool.{true, false, _&&_}
 use mathlib.Core.List.{List, [], _∷_, _++_}
 use lib.Dec.{leb}
 use lib.ListN.{length}
-use borrow.Author.Tests.{le-leb}
+use borrow.Author.Tests.{le-leb, ne-eqb}
 use Rattle.model.specs.Lists.{count}
 use Rattle.model.specs.Formula.{C, Y, X}
 use Rattle.model.specs.Program.{Record, rec, compiledRecords}
 use Rattle.model.specs.Label.{within, isOrder}
 use Rattle.model.specs.Fill.{Plan, slots, missing}
-use Rattle.model.specs.Check.{Kind, opens, subtracts, closes, closesPivot, kindOf, formed, inOrder, inTurn, whole, chain}
+use Rattle.model.specs.Check.{Kind, opens, subtracts, closes, closesPivot, kindOf, isSweep, formed, inOrder, inTurn, whole, chain}
 use Rattle.model.specs.Compact.{openAfter, needed, Renaming, renamed, afterRecord, unnamed, mostAlive}
 use Rattle.model.specs.Compact.{compacting, compactSlots, compactRecords, compacted}
 use Rattle.model.specs.Agreement.{CompactLeast, CompactFine}
@@ -97,7 +97,7 @@ module _ {N n s : ℕ} where
 
 -- ---- the checks
 
-module _ (N n s S : ℕ) where
+module _ (N n s S : ℕ) (crout : isSweep S ≡ false) where
   -- a record that opens the slot given for it passes 12
   opens-slot : {c y x d made : ℕ} {given free : List ℕ} {rs : List Record} (a : ℕ) → leb a n ≡ true → Plain N n s (on C) c y x rs
       → Sound c (suc c) d given free made rs → made ≤ S → (leb a n && (within (slotIn given (suc c)) S && leb (slotIn given (suc c)) (suc d))) ≡ true
@@ -115,42 +115,44 @@ module _ (N n s S : ℕ) where
       → Sound c (openSlot ph c) d given free made rs → renamed (standing (openSlot ph c) given free made) rs .slots ≡ S
       → Fine N n S (progress ph (slotIn given (suc c)) k d y x) (renamed (standing (openSlot ph c) given free made) rs .records)
   unfolding renamed afterRecord kindOf formed inOrder inTurn
-  links-fine {d = d} given free made k ends sound e = end-fine N n S d k (omega (arith, sound .reached))
+  links-fine {d = d} given free made k ends sound e = end-fine N n S crout d k (omega (arith, sound .reached))
   links-fine given free made k (opens-c a h last plain) sound e =
       let after = sound-opens (open-needed plain (omega arith)) sound in
       let slots = rw (giving-is given free made, renamed) at e in
-      rw (giving-is given free made, renamed) (one-fine N n S _ (opens C) _ _ refl refl refl
+      rw (giving-is given free made, renamed) (one-fine N n S crout _ (opens C) _ _ refl refl refl refl
       (opens-slot a h plain after (omega (arith, slots, sized _ _ (madeWith free made) plain after .alive)))
       (links-fine _ _ (madeWith free made) k plain after slots))
   links-fine given free made k (opens-y p h plain) sound e =
-      one-fine N n S _ (opens Y) _ _ refl refl refl h (links-fine given _ made p plain (sound-stays sound (omega arith)) e)
+      one-fine N n S crout _ (opens Y) _ _ refl refl refl refl h (links-fine given _ made p plain (sound-stays sound (omega arith)) e)
   links-fine given free made k (opens-x p h plain) sound e =
-      one-fine N n S _ (opens X) _ _ refl refl refl h (links-fine given _ made p plain (sound-stays sound (omega arith)) e)
+      one-fine N n S crout _ (opens X) _ _ refl refl refl refl h (links-fine given _ made p plain (sound-stays sound (omega arith)) e)
   links-fine given free made k (subtracts-c {c} {rs = rs} p q hp hq plain) sound e =
       let closed = reads (subtracts-c p q hp hq plain) sound in
-      one-fine N n S _ (subtracts C) _ _ refl refl refl
+      one-fine N n S crout _ (subtracts C) _ _ refl refl refl refl
       (both-true (closed p hp (needs (suc c) (rec 4 p q) rs)) (closed q hq (needs-too (suc c) (rec 4 p q) rs)))
       (links-fine given _ made k plain (sound-stays sound (omega arith)) e)
   links-fine given free made k (subtracts-y {rs = rs} p q hp hq plain) sound e =
-      one-fine N n S _ (subtracts Y) _ _ refl refl refl
+      one-fine N n S crout _ (subtracts Y) _ _ refl refl refl refl
       (both-true (reads (subtracts-y p q hp hq plain) sound p hp (needs 0 (rec 5 p q) rs)) hq)
       (links-fine given _ made k plain (sound-stays sound (omega arith)) e)
   links-fine given free made k (subtracts-x {rs = rs} p q hp hq plain) sound e =
-      one-fine N n S _ (subtracts X) _ _ refl refl refl
+      one-fine N n S crout _ (subtracts X) _ _ refl refl refl refl
       (both-true (reads (subtracts-x p q hp hq plain) sound p hp (needs 0 (rec 6 p q) rs)) hq)
       (links-fine given _ made k plain (sound-stays sound (omega arith)) e)
   links-fine given free made k (divides {t} {c} {rs = rs} p hp plain) sound e =
-      one-fine N n S _ Kind.divides _ _ refl refl (divides-in-order t (slotIn given (suc c)) k)
+      one-fine N n S crout _ Kind.divides _ _ refl refl refl (divides-in-order t (slotIn given (suc c)) k)
       (reads (divides p hp plain) sound p hp (needs (openSlot (on t) c) (rec 7 p 0) rs))
       (links-fine given _ made k plain (sound-stays sound (omega arith)) e)
   links-fine given free made k (closes-c plain) sound e =
-      one-fine N n S _ closes _ _ refl refl refl refl (rw (sym (sound .reached)) (links-fine given _ made k plain (sound-closes sound (omega arith)) e))
+      one-fine N n S crout _ closes _ _ refl refl refl refl refl
+      (rw (sym (sound .reached)) (links-fine given _ made k plain (sound-closes sound (omega arith)) e))
   links-fine given free made k (closes-pivot plain) sound e =
-      one-fine N n S _ closesPivot _ _ refl refl refl refl (rw (sym (sound .reached)) (links-fine given _ made k plain (sound-closes sound (omega arith)) e))
+      one-fine N n S crout _ closesPivot _ _ refl refl refl refl refl
+      (rw (sym (sound .reached)) (links-fine given _ made k plain (sound-closes sound (omega arith)) e))
   links-fine given free made k (closes-y plain) sound e =
-      one-fine N n S _ closes _ _ refl refl refl refl (links-fine given _ made k plain (sound-stays sound (omega arith)) e)
+      one-fine N n S crout _ closes _ _ refl refl refl refl refl (links-fine given _ made k plain (sound-stays sound (omega arith)) e)
   links-fine given free made k (closes-x plain) sound e =
-      one-fine N n S _ closes _ _ refl refl refl refl (links-fine given _ made k plain (sound-stays sound (omega arith)) e)
+      one-fine N n S crout _ closes _ _ refl refl refl refl refl (links-fine given _ made k plain (sound-stays sound (omega arith)) e)
 
 -- ---- the compact program
 
@@ -168,6 +170,11 @@ module _ (N : ℕ) (L : Plan) (order : isOrder N ≡ true) (none : missing N L �
   sizes : Sized (slots N L) 0 0 0 (compiledRecords N L) (compactSlots N L)
   unfolding compactSlots compacting
   sizes = sized [] [] 0 compiled-plain (sound-begun (compiledRecords N L))
+
+  -- it has a slot
+  pub compact-crout : isSweep (compactSlots N L) ≡ false
+  compact-crout = ne-eqb (compactSlots N L) 0
+      (λ e. omega (arith, sizes .some (omega (arith, slots-at-least N L (pivot-held N L none), within-range N 600 order))))
 
   pub compact-length : length (compactRecords N L) ≡ length (compiledRecords N L)
   unfolding compactRecords compacting
@@ -187,9 +194,9 @@ pub compact-fine : (N : ℕ) (L : Plan) → CompactFine N L
 unfolding compacted compactSlots compactRecords compacting
 compact-fine N L order labels none =
     let size = sizes N L order none in
-    let some = size .some (omega (arith, slots-at-least N L (pivot-held N L none), within-range N 600 order)) in
     let range : (1 ≤ length (compactRecords N L)) × (length (compactRecords N L) < 100000000) =
     omega (arith, compact-length N L order none, records-range N L order none) in
     records-fine N (length L) (compactSlots N L) (compactRecords N L) order (plan-length N L labels)
-    some (omega (arith, size .few, slots-at-most N L)) (range .0) (range .1)
-    (links-fine N (length L) (slots N L) (compactSlots N L) [] [] 0 0 (compiled-plain N L order none) (sound-begun (compiledRecords N L)) refl)
+    (omega (arith, size .few, slots-at-most N L)) (range .0) (range .1)
+    (links-fine N (length L) (slots N L) (compactSlots N L) (compact-crout N L order none) [] [] 0 0
+    (compiled-plain N L order none) (sound-begun (compiledRecords N L)) refl)

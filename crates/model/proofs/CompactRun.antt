@@ -16,13 +16,13 @@ use Rattle.model.specs.Crout.{nothing}
 use Rattle.model.specs.Program.{Record, rec, compiledRecords, compiled}
 use Rattle.model.specs.Check.{kindOf, chain}
 use Rattle.model.specs.Run.{State, Stepped, going, stop, subtracted, dividedBy, closing, settledStep, step, fresh, follow, followed}
-use Rattle.model.specs.Run.{Outcome, solution, stopped, refusedBy, ran}
+use Rattle.model.specs.Run.{Outcome, solution, stopped, refusedBy, unsettledAt, ran}
 use Rattle.model.specs.Compact.{openAfter, needed, renamed, afterRecord, compacting, compactSlots, compactRecords, compacted, openings, closedInto}
 use Rattle.model.specs.Agreement.{Accepted, ended, seen, stops, numberIn, common, besides, CompactAgrees, CompactC, CompactDense}
 use Rattle.model.proofs.Links.{linksFrom}
 use Rattle.model.proofs.Within.{within-range}
 use Rattle.model.proofs.Machine.{settled-test}
-use Rattle.model.proofs.Runs.{runs-open, finite-fine, lengths-right}
+use Rattle.model.proofs.Runs.{doneBy, runs-open, finite-fine, lengths-right}
 use Rattle.model.proofs.Chain.{program-chain}
 use Rattle.model.proofs.Put.{put-end, put-length, put-same, put-other}
 use Rattle.model.proofs.Agreement.{runs, agreement}
@@ -31,7 +31,7 @@ use Rattle.model.proofs.Plain.{Phase, between, on, Closed, Plain, ends,
 use Rattle.model.proofs.Plain.{subtracts-c, subtracts-y, subtracts-x, divides, closes-c, closes-pivot, closes-y, closes-x}
 use Rattle.model.proofs.Renaming.{openSlot, standing, slotIn, slot-before, given-more, Sound, needs, needs-too, needs-later}
 use Rattle.model.proofs.Renaming.{open-needed, sound-reads, sound-stays, sound-closes, giving-is, sound-opens, sound-begun}
-use Rattle.model.proofs.Compact.{compiled-plain, compact-chain, compact-fine}
+use Rattle.model.proofs.Compact.{compiled-plain, compact-crout, compact-chain, compact-fine}
 
 -- ---- what the slots hold
 
@@ -131,7 +131,7 @@ module _ {N n s : ℕ} where
 -- The compact run's ending beside the plain one's, ks being the slots opened: C holds what each slot closed last, "a refusal's number in table 1 is here the
 -- slot", and all else is the same.
 data Same (ks : List ℕ) : Outcome → Outcome → Type 0 where
-  both-solve : (t : Tables) (p q g : ℕ) → Same ks (solution (with t (closedInto [] ks (t .c))) p q g) (solution t p q g)
+  both-solve : (t : Tables) (p q g : ℕ) → Same ks (solution (with t (closedInto [] ks (t .c))) p q g 0) (solution t p q g 0)
   both-stop : (r i : ℕ) (t : Table) (k l : ℕ) → numberIn t k ≡ numberIn t l → Same ks (stopped r i t k) (stopped r i t l)
 
 -- the state within a phase: what is open, and what of it the two programs share
@@ -287,11 +287,13 @@ module _ {N : ℕ} {L : Plan} {A B : List Float} {limit : Float} (accepted : Acc
 
   -- the checks before the first record let the run through
   compact-runs : ran (compacted N L) A B limit (compactSlots N L) N N ≡ followed (follow A B limit (fresh N) (chain (compacted N L) .links))
-  unfolding compacted
+  unfolding compacted doneBy
   compact-runs =
+      let crout = compact-crout N L (given .order) pivots in
       runs-open (compacted N L) A B limit (compactSlots N L) N N (compact-fine N L (given .order) (given .labels) pivots)
-      (lengths-right N (length L) (compactSlots N L) _ _ _ _ _ (given .lengthA) (given .lengthB) refl refl refl)
+      (lengths-right N (length L) (compactSlots N L) _ _ _ _ _ (given .lengthA) (given .lengthB) refl (rw crout) refl)
       (finite-fine A B limit (record { finiteA = given .finiteA; finiteB = given .finiteB; limited = given .limited }))
+      ∙ ap (doneBy (compacted N L) A B limit) crout
 
   -- nothing is closed before the first record
   alike-begun : Alike 0 0 0 [] (compiledRecords N L) (nothing N) []
@@ -315,9 +317,10 @@ module _ {N : ℕ} {L : Plan} {A B : List Float} {limit : Float} (accepted : Acc
 
 -- the C of a run that solves
 tableC : Outcome → List Float
-tableC (solution t p q g) = t .c
+tableC (solution t p q g k) = t .c
 tableC (stopped r i t k) = []
 tableC (refusedBy r d) = []
+tableC (unsettledAt t) = []
 
 module _ {ks : List ℕ} where
   same-common : {o w : Outcome} → Same ks o w → common o ≡ common w
@@ -330,7 +333,8 @@ module _ {ks : List ℕ} where
   same-besides (both-solve t p q g) = refl
   same-besides (both-stop r i t k l e) = ap (ended r t) e
 
-  same-c : {o w : Outcome} {t u : Tables} {p q g p′ q′ g′ : ℕ} → Same ks o w → w ≡ solution t p q g → o ≡ solution u p′ q′ g′ → u .c ≡ closedInto [] ks (t .c)
+  same-c : {o w : Outcome} {t u : Tables} {p q g k p′ q′ g′ k′ : ℕ} → Same ks o w → w ≡ solution t p q g k → o ≡ solution u p′ q′ g′ k′
+      → u .c ≡ closedInto [] ks (t .c)
   unfolding tableC
   same-c (both-solve t p q g) e f = sym (ap tableC f) ∙ ap (λ w. closedInto [] ks (tableC w)) e
   same-c (both-stop r i t k l h) e f = let z : _≡_ {A = ℕ} 0 1 = cc in absurd (omega arith)
@@ -342,7 +346,7 @@ module _ (N : ℕ) (L : Plan) (A B : List Float) (limit : Float) where
 
   -- "C holds what each slot closed last."
   pub compact-c : CompactC N L A B limit
-  compact-c accepted t u p q g p′ q′ g′ = same-c (programs-same accepted)
+  compact-c accepted t u p q g k p′ q′ g′ k′ = same-c (programs-same accepted)
 
   -- In X, Y, the counts and the refusals it is dense Crout.
   pub compact-dense : CompactDense N L A B limit

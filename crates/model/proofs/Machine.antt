@@ -33,7 +33,7 @@ Started f = StartedAt (f .table) (f .start) (f .target)
 
 -- how a row of formulas ends, as a run that has made p products and q quotients shows it
 unfoldable pub shown : ℕ → ℕ → Ended → Seen
-shown p q (solved t g) = whole t p q g
+shown p q (solved t g) = whole t p q g 0
 shown p q (refused r t k) = ended r t k
 
 -- what is seen of a run with an answer in formula f: with a number it goes on, a refusal ends it
@@ -72,7 +72,7 @@ positive d = leb·suc-suc 0 d ∙ leb·zero d
 module _ (A B : List Float) (limit : Float) where
   -- what is seen of a run of records, whatever their indices
   run : State → List Record → Seen
-  run z [] = whole (z .tables) (z .products) (z .quotients) (z .vanished)
+  run z [] = whole (z .tables) (z .products) (z .quotients) (z .vanished) 0
   run z (r ∷ rs) = elim (step A B limit z (kindOf (r .kind)) (r .p) (r .q)) [ going z′ ↦ run z′ rs | stop n ↦ ended n (z .table) (z .target) ]
 
   seen-follow : (z : State) (k : ℕ) (rs : List Record) → seen (followed (follow A B limit z (linksFrom k rs))) ≡ run z rs
@@ -164,7 +164,7 @@ module _ (A B : List Float) (limit : Float) where
   run-formulas : (fs : List Formula) → Each Started fs → (z : State) (p q : ℕ) → z .products + productsOf fs ≡ p → z .quotients + quotientsOf fs ≡ q
       → run z (joined (map recordsOf fs)) ≡ shown p q (worked A B limit (z .vanished) (z .tables) fs)
   unfolding run joined worked shown productsOf quotientsOf total kept
-  run-formulas [] started z p q products quotients = ap₂ (λ m n. whole (z .tables) m n (z .vanished)) (omega arith) (omega arith)
+  run-formulas [] started z p q products quotients = ap₂ (λ m n. whole (z .tables) m n (z .vanished) 0) (omega arith) (omega arith)
   run-formulas (f ∷ fs) started z p q products quotients =
       run-formula f (started f (List·Memᴰ·head refl)) z _ _ _ (joined (map recordsOf fs)) refl refl refl
       ∙ resumed-worked p q (z .vanished) (z .tables) f fs _ (λ v. run-formulas fs (λ g m. started g (List·Memᴰ·tail m)) _ p q

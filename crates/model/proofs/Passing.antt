@@ -8,7 +8,7 @@ use borrow.Author.Tests.{lt-ltb, ltb-true, le-leb, leb-true, eq-eqb, eqb-true}
 use lib.Dec.{eqb, leb, ltb}
 use lib.ListN.{length}
 use Rattle.model.specs.Label.{isOrder}
-use Rattle.model.specs.Check.{Link, End, whole, Progress, Verdict, fine, refusal, Kind, kindOf, formed, inOrder, inTurn, onward}
+use Rattle.model.specs.Check.{Link, End, whole, Progress, Verdict, fine, refusal, Kind, kindOf, belongs, formed, inOrder, allowed, onward}
 use Rattle.model.specs.Check.{complete, atEnd, begun, word, chain, checkLinks, check}
 
 -- a refusal is not fine
@@ -21,7 +21,7 @@ both a b = and-eq-true-iff a b .0
 
 -- 8's test
 abbrev pub eight : ℕ → ℕ → ℕ → Bool
-eight N n s = isOrder N && (leb n (N * N) && (leb 1 s && leb s (N * N)))
+eight N n s = isOrder N && (leb n (N * N) && leb s (N * N))
 
 -- 9's test, of the next index n of record k
 pub next-range : (k n records : ℕ) → ltb k n && ltb n records ≡ true → (k < n) × (n < records)
@@ -62,15 +62,15 @@ fine-passed W e =
 
 -- the first record of a chain passes 10, 11 and 12, and the others pass after it
 pub record LinkPassed (N n s : ℕ) (g : Progress) (l : Link) (ls : List Link) (e : End) : Type 0 where
-  pub ten : formed (kindOf (l .at .kind)) (l .at .p) (l .at .q) ≡ true
+  pub ten : belongs s (l .at .kind) && formed (kindOf (l .at .kind)) (l .at .p) (l .at .q) ≡ true
   pub eleven : inOrder (kindOf (l .at .kind)) (g .target) ≡ true
-  pub twelve : inTurn N n s (kindOf (l .at .kind)) (l .at .p) (l .at .q) g ≡ true
+  pub twelve : allowed N n s (kindOf (l .at .kind)) (l .at .p) (l .at .q) g ≡ true
   pub later : checkLinks N n s (onward (kindOf (l .at .kind)) (l .at .p) (l .at .q) g) ls e ≡ fine
 
 pub link-passed : (N n s : ℕ) (g : Progress) (l : Link) (ls : List Link) (e : End) → checkLinks N n s g (l ∷ ls) e ≡ fine → LinkPassed N n s g l ls e
 unfolding checkLinks
 link-passed N n s g l ls e passes =
-    go (formed k (l .at .p) (l .at .q)) (inOrder k (g .target)) (inTurn N n s k (l .at .p) (l .at .q) g) refl refl refl passes
+    go (belongs s (l .at .kind) && formed k (l .at .p) (l .at .q)) (inOrder k (g .target)) (allowed N n s k (l .at .p) (l .at .q) g) refl refl refl passes
   where
     k : Kind
     k = kindOf (l .at .kind)
@@ -78,7 +78,8 @@ link-passed N n s g l ls e passes =
     rest : Verdict
     rest = checkLinks N n s (onward k (l .at .p) (l .at .q) g) ls e
 
-    go : (ten eleven twelve : Bool) → formed k (l .at .p) (l .at .q) ≡ ten → inOrder k (g .target) ≡ eleven → inTurn N n s k (l .at .p) (l .at .q) g ≡ twelve
+    go : (ten eleven twelve : Bool) → belongs s (l .at .kind) && formed k (l .at .p) (l .at .q) ≡ ten → inOrder k (g .target) ≡ eleven
+        → allowed N n s k (l .at .p) (l .at .q) g ≡ twelve
         → elim ten as (λ b. Verdict) [
           | false ↦ refusal 10 (l .index)
           | true ↦ elim eleven [ false ↦ refusal 11 (l .index) | true ↦ elim twelve [ false ↦ refusal 12 (l .index) | true ↦ rest ] ]

@@ -1,11 +1,11 @@
 -- Release 1's programs today: every row of words that `specs/Release1`, here R, accepts passes today's checks, and its run with limit +0 ends as
--- release 1's did, the products that vanished left out.
+-- release 1's did, the products that vanished and the sweeps left out.
 use Prim.Native.Nat.{ℕ, zero, suc, _+_, _-_, _*_, _/_, _%_, _≤_, max}
 use native.Mathlib.Omega.{arith}
 use mathlib.Core.Path.{_≡_, refl, sym, ap, ap₂, subst, _∙_}
 use mathlib.Core.Bool.{Bool, true, false, cond, _&&_, true≢false}
 use mathlib.Core.List.{List, [], _∷_}
-use borrow.Author.Tests.{ltb-true, le-leb, leb-true, eqb-true}
+use borrow.Author.Tests.{ltb-true, le-ltb, le-leb, leb-true, eqb-true, ne-eqb}
 use lib.Dec.{eqb, leb, ltb}
 use lib.ListN.{length, length-append}
 use lib.Ieee.{Float, nan, inf, fin, le, lt, eq}
@@ -13,17 +13,18 @@ use Rattle.model.specs.Release1 as R
 use Rattle.model.specs.Label.{within}
 use Rattle.model.specs.Arith.{plusZero, Answer, number, overflow, zeroDivisor, clean, settled, isZero, isFinite, isLimit, next}
 use Rattle.model.specs.Arith.{product, difference, quotient, vanishes}
-use Rattle.model.specs.Formula.{Table, C, Y, X, numberOf, Tables, entry, closed, starting, less}
+use Rattle.model.specs.Formula.{Table, C, Y, X, numberOf, Tables, entry, putX, closed, starting, less}
 use Rattle.model.specs.Program.{rec}
 use Rattle.model.specs.Check.{word, nextOf, Chain, whole, broken, before, chainAfter, chain, Open, idle, busy, Progress, Verdict, fine, refusal}
-use Rattle.model.specs.Check.{Kind, opens, subtracts, divides, closes, closesPivot, none, kindOf}
-use Rattle.model.specs.Check.{formed, inOrder, inTurn, opensAt, counted, onward, isIdle, complete, checkLinks, check}
-use Rattle.model.specs.Run.{State, Stepped, going, stop, subtracted, dividedBy, closing, settledStep, step, Followed, halted, follow, followed, fresh}
-use Rattle.model.specs.Run.{Outcome, solution, stopped, refusedBy, notFinite, checkValues, ran, Reply, solves, stops, refuses, reply, leaves}
+use Rattle.model.specs.Check.{Kind, opens, subtracts, divides, closes, closesPivot, none, kindOf, isSweep, belongs}
+use Rattle.model.specs.Check.{formed, inOrder, inTurn, allowed, opensAt, counted, onward, isIdle, complete, checkLinks, check}
+use Rattle.model.specs.Run.{State, Stepped, going, stop, subtracted, dividedBy, closing, settledStep, step, Followed, through, halted, follow, followed}
+use Rattle.model.specs.Run.{fresh, Outcome, solution, stopped, refusedBy, unsettledAt, notFinite, checkValues, ran}
+use Rattle.model.specs.Run.{Reply, solves, stops, refuses, reply, leaves}
 use Rattle.model.proofs.Within.{within-range, range-within}
 use Rattle.model.proofs.Arith.{small-zero}
 use Rattle.model.proofs.Put.{put-end}
-use Rattle.model.proofs.Runs.{gated, ran-is, ranBy, lengthsRight}
+use Rattle.model.proofs.Runs.{gated, gated-each, lengthsRight, doneBy, ran-fine}
 use Rattle.model.proofs.Following.{ended, follows}
 use Rattle.model.proofs.Passing.{both, passed-fine}
 
@@ -105,14 +106,15 @@ steppedNow vanished (R.gives z) = going (stateNow vanished z)
 steppedNow vanished R.overflow = stop 16
 steppedNow vanished R.zeroDivisor = stop 17
 
--- an ending without the products that vanished
+-- an ending without the products that vanished and the sweeps; 27 is none of release 1's
 abbrev pub outcomeThen : Outcome → R.Outcome
-outcomeThen (solution t products quotients vanished) = R.solution (tablesThen t) products quotients
+outcomeThen (solution t products quotients vanished sweeps) = R.solution (tablesThen t) products quotients
 outcomeThen (stopped r index t k) = R.stopped r index (tableThen t) k
 outcomeThen (refusedBy r d) = R.refused r d
+outcomeThen (unsettledAt t) = R.refused 27 0
 
 abbrev pub replyThen : Reply → R.Reply
-replyThen (solves products quotients vanished) = R.solves products quotients
+replyThen (solves products quotients vanished sweeps) = R.solves products quotients
 replyThen (stops r index t k) = R.stops r index t k
 replyThen (refuses r d) = R.refuses r d
 
@@ -193,9 +195,23 @@ unfolding R.required
 required-passed true r d v e = (refl, e)
 required-passed false r d v e = let z : _≡_ {A = ℕ} 0 1 = cc in absurd (omega arith)
 
-pub kind-now : (k : ℕ) → kindOf k ≡ kindNow (R.kindOf k)
+-- the kinds 1 to 9 mean what they meant
+pub kind-now : (k : ℕ) → within k 9 ≡ true → kindOf k ≡ kindNow (R.kindOf k)
 unfolding R.kindOf kindOf
-kind-now k = simp (cond-map kindNow)
+kind-now k nine =
+    let most = within-range k 9 nine .1 in
+    rw (kindOf, ne-eqb k 10 (λ e. omega arith), ne-eqb k 11 (λ e. omega arith), ne-eqb k 12 (λ e. omega arith)) (simp (cond-map kindNow))
+
+-- and release 1 has no others
+pub nine-kinds : (k p q : ℕ) → R.formed (R.kindOf k) p q ≡ true → within k 9 ≡ true
+unfolding R.formed R.kindOf
+nine-kinds k p q formed = go (within k 9) refl
+  where
+    go : (b : Bool) → within k 9 ≡ b → b ≡ true
+    go true out = refl
+    go false out =
+        let o : (j : ℕ) → within j 9 ≡ true → eqb k j ≡ false = λ j nine. ne-eqb k j (λ e. true≢false (sym nine ∙ ap (λ j. within j 9) (sym e) ∙ out)) in
+        absurd (true≢false (sym (rw (o 1 refl, o 2 refl, o 3 refl, o 4 refl, o 5 refl, o 6 refl, o 7 refl, o 8 refl, o 9 refl) at formed)))
 
 pub formed-now : (k : R.Kind) (p q : ℕ) → R.formed k p q ≡ formed (kindNow k) p q
 unfolding R.formed formed
@@ -296,25 +312,28 @@ module _ (N n s : ℕ) where
       let c = required-passed (R.inTurn N n s (R.kindOf k) p q g) 12 index _ (b .1) in
       record { ten = a .0; eleven = b .0; twelve = c .0; later = c .1 }
 
-  pub complete-now : (g : R.Progress) → complete N s (progressNow N g) ≡ R.complete N s g
+  pub complete-now : isSweep s ≡ false → (g : R.Progress) → complete N s (progressNow N g) ≡ R.complete N s g
   unfolding complete R.complete
-  complete-now g = ap (λ b. b && (eqb (g .c) s && (eqb (g .y) N && eqb (g .x) N))) (idle-now (g .target))
+  complete-now crout g = rw (complete, crout) (ap (λ b. b && (eqb (g .c) s && (eqb (g .y) N && eqb (g .x) N))) (idle-now (g .target)))
     where
       idle-now : (o : R.Open) → isIdle (openNow N (g .c) (g .y) (g .x) o) ≡ R.isIdle o
       idle-now R.idle = refl
       idle-now (R.busy t) = refl
 
-  links-now : (g : R.Progress) (c : R.Chain) → R.checkChain N n s g c ≡ R.fine → checkLinks N n s (progressNow N g) (chainNow c .links) (chainNow c .end) ≡ fine
-  unfolding checkLinks R.checkChain
-  links-now g (R.link index k p q rest) e =
+  links-now : isSweep s ≡ false → (g : R.Progress) (c : R.Chain) → R.checkChain N n s g c ≡ R.fine
+      → checkLinks N n s (progressNow N g) (chainNow c .links) (chainNow c .end) ≡ fine
+  unfolding checkLinks belongs allowed R.checkChain
+  links-now crout g (R.link index k p q rest) e =
       let f = link-fine index k p q g rest e in
+      let nine = nine-kinds k p q (f .ten) in
+      let kind = kind-now k nine in
       let ten = sym (formed-now (R.kindOf k) p q) ∙ f .ten in
       let eleven = sym (order-now N (g .c) (g .y) (g .x) (R.kindOf k) (g .target)) ∙ f .eleven in
       let twelve = turn-now (R.kindOf k) p q g (f .twelve) in
-      rw (checkLinks, kind-now k, ten, kind-now k, eleven, kind-now k, twelve, kind-now k, ← onward-now (R.kindOf k) p q g (f .twelve))
-      (links-now (R.onward (R.kindOf k) g) rest (f .later))
-  links-now g R.whole e = rw (complete-now g, required-passed (R.complete N s g) 13 0 R.fine e .0)
-  links-now g (R.broken k) e = let z : _≡_ {A = ℕ} 0 1 = cc in absurd (omega arith)
+      rw (checkLinks, belongs, crout, nine, kind, ten, kind, eleven, kind, allowed, crout, twelve, kind, ← onward-now (R.kindOf k) p q g (f .twelve))
+      (links-now crout (R.onward (R.kindOf k) g) rest (f .later))
+  links-now crout g R.whole e = rw (complete-now crout g, required-passed (R.complete N s g) 13 0 R.fine e .0)
+  links-now crout g (R.broken k) e = let z : _≡_ {A = ℕ} 0 1 = cc in absurd (omega arith)
 
 -- ---- the run
 
@@ -328,22 +347,24 @@ entry-now t R.X k = refl
 Next : R.Tables → R.Table → ℕ → Type 0
 Next t R.C k = k ≡ suc (length (t .c))
 Next t R.Y k = Unit {0}
-Next t R.X k = Unit {0}
+Next t R.X k = k + length (t .x) ≡ t .order
 
 -- then it is closed as today
 closed-now : (t : R.Tables) (u : R.Table) (k : ℕ) (v : Float) → Next t u k → closed (tablesNow t) (tableNow u) k v ≡ tablesNow (R.closed t u v)
-unfolding closed R.closed Next
+unfolding closed putX R.closed Next
 closed-now t R.C k v e = ap (λ c. record { order = t .order; c = c; y = t .y; x = t .x }) (put-end (t .c) (k - 1) v (omega arith))
 closed-now t R.Y k v e = refl
-closed-now t R.X k v e = refl
+closed-now t R.X k v e = rw (putX, le-ltb (t .order - length (t .x)) k (omega arith))
 
 OpenAt : R.State → R.Open → Type 0
 OpenAt z R.idle = Unit {0}
 OpenAt z (R.busy u) = (z .table ≡ u) × Next (z .tables) u (z .target)
 
 -- the state of a run where the check's progress is g
-record Reached (z : R.State) (g : R.Progress) : Type 0 where
+record Reached (N : ℕ) (z : R.State) (g : R.Progress) : Type 0 where
+  order : z .tables .order ≡ N
   c : length (z .tables .c) ≡ g .c
+  x : length (z .tables .x) ≡ g .x
   target : OpenAt z (g .target)
 
 closes-busy : (o : R.Open) → R.inOrder R.closes o ≡ true → (u : R.Table) × (o ≡ R.busy u)
@@ -356,7 +377,7 @@ unfolding R.inOrder
 pivot-busy R.idle e = absurd (true≢false (sym e))
 pivot-busy (R.busy u) e = (u, refl)
 
-module _ {z : R.State} {g : R.Progress} (reached : Reached z g) (u : R.Table) (open-so : g .target ≡ R.busy u) where
+module _ {N : ℕ} {z : R.State} {g : R.Progress} (reached : Reached N z g) (u : R.Table) (open-so : g .target ≡ R.busy u) where
   open-at : (z .table ≡ u) × Next (z .tables) u (z .target)
   unfolding OpenAt
   open-at = rw open-so at (reached .target)
@@ -374,14 +395,14 @@ module _ {z : R.State} {g : R.Progress} (reached : Reached z g) (u : R.Table) (o
     vanished = vanished;
   }) (closed-now (z .tables) (z .table) (z .target) (z .running) (rw (open-at .0) (open-at .1)))
 
-  taken-reached : Reached (R.taken z) (R.counted (g .target) g)
+  taken-reached : Reached N (R.taken z) (R.counted (g .target) g)
   unfolding R.taken R.counted R.closed OpenAt
-  taken-reached = subst (λ o. Reached (R.taken z) (R.counted o g)) (sym open-so) (go u (open-at .0))
+  taken-reached = subst (λ o. Reached N (R.taken z) (R.counted o g)) (sym open-so) (go u (open-at .0))
     where
-      go : (u : R.Table) → z .table ≡ u → Reached (R.taken z) (R.counted (R.busy u) g)
-      go R.C e = rw e record { c = rw length-append (omega (arith, reached .c)); target = tt }
-      go R.Y e = rw e record { c = reached .c; target = tt }
-      go R.X e = rw e record { c = reached .c; target = tt }
+      go : (u : R.Table) → z .table ≡ u → Reached N (R.taken z) (R.counted (R.busy u) g)
+      go R.C e = rw e record { order = reached .order; c = rw length-append (omega (arith, reached .c)); x = reached .x; target = tt }
+      go R.Y e = rw e record { order = reached .order; c = reached .c; x = reached .x; target = tt }
+      go R.X e = rw e record { order = reached .order; c = reached .c; x = ap suc (reached .x); target = tt }
 
 -- what a state that a step gives is
 gives-is : {z w : R.State} → R.gives z ≡ R.gives w → z ≡ w
@@ -397,18 +418,18 @@ next-gives (R.gives v) f e = (v, cc)
 next-gives R.overflow f e = let z : _≡_ {A = ℕ} 0 1 = cc in absurd (omega arith)
 next-gives R.zeroDivisor f e = let z : _≡_ {A = ℕ} 0 1 = cc in absurd (omega arith)
 
-moved-to : {z w : R.State} {g : R.Progress} → z ≡ w → Reached z g → Reached w g
-moved-to {g = g} e r = subst (λ w. Reached w g) e r
+moved-to : {N : ℕ} {z w : R.State} {g : R.Progress} → z ≡ w → Reached N z g → Reached N w g
+moved-to {N} {g = g} e r = subst (λ w. Reached N w g) e r
 
-module _ {z : R.State} {g : R.Progress} (reached : Reached z g) where
+module _ {N : ℕ} {z : R.State} {g : R.Progress} (reached : Reached N z g) where
   opened-reached : (t : R.Table) (k : ℕ) (v : Float) → Next (z .tables) t k
-      → Reached (R.opened z t k v) (record { target = R.busy t; c = g .c; y = g .y; x = g .x })
+      → Reached N (R.opened z t k v) (record { target = R.busy t; c = g .c; y = g .y; x = g .x })
   unfolding R.opened OpenAt
-  opened-reached t k v next = record { c = reached .c; target = (refl, next) }
+  opened-reached t k v next = record { order = reached .order; c = reached .c; x = reached .x; target = (refl, next) }
 
-  worked-reached : (v : Float) (products quotients : ℕ) → Reached (R.worked z v products quotients) g
+  worked-reached : (v : Float) (products quotients : ℕ) → Reached N (R.worked z v products quotients) g
   unfolding R.worked OpenAt
-  worked-reached v products quotients = record { c = reached .c; target = go (g .target) (reached .target) }
+  worked-reached v products quotients = record { order = reached .order; c = reached .c; x = reached .x; target = go (g .target) (reached .target) }
     where
       go : (o : R.Open) → OpenAt z o → OpenAt (R.worked z v products quotients) o
       go R.idle at = at
@@ -423,7 +444,7 @@ stepped-now vanished R.zeroDivisor f = refl
 
 module _ (A B : List Float) (N n s : ℕ) where
   -- one record does what it did, whatever has vanished
-  step-now : (vanished : ℕ) (z : R.State) (g : R.Progress) (k : R.Kind) (p q : ℕ) → Reached z g → R.inOrder k (g .target) ≡ true
+  step-now : (vanished : ℕ) (z : R.State) (g : R.Progress) (k : R.Kind) (p q : ℕ) → Reached N z g → R.inOrder k (g .target) ≡ true
       → (gone : ℕ) × (step A B plusZero (stateNow vanished z) (kindNow k) p q ≡ steppedNow gone (R.step A B z k p q))
   unfolding R.step R.opened R.worked step starting
   step-now vanished z g (R.opens R.C) p q r e = (vanished, rw clean-frozen)
@@ -447,12 +468,14 @@ module _ (A B : List Float) (N n s : ℕ) where
   step-now vanished z g R.none p q r e = (vanished, refl)
 
   -- and the state is reached where the check goes on
-  step-reached : (z z′ : R.State) (g : R.Progress) (k : R.Kind) (p q : ℕ) → Reached z g → R.inOrder k (g .target) ≡ true → R.inTurn N n s k p q g ≡ true
-      → R.step A B z k p q ≡ R.gives z′ → Reached z′ (R.onward k g)
+  step-reached : (z z′ : R.State) (g : R.Progress) (k : R.Kind) (p q : ℕ) → Reached N z g → R.inOrder k (g .target) ≡ true → R.inTurn N n s k p q g ≡ true
+      → R.step A B z k p q ≡ R.gives z′ → Reached N z′ (R.onward k g)
   unfolding R.step R.onward Next
   step-reached z z′ g (R.opens R.C) p q r e f h = let next = next-c N n s p q g f in moved-to (gives-is h) (opened-reached r R.C q _ (omega (arith, r .c)))
   step-reached z z′ g (R.opens R.Y) p q r e f h = moved-to (gives-is h) (opened-reached r R.Y p _ tt)
-  step-reached z z′ g (R.opens R.X) p q r e f h = moved-to (gives-is h) (opened-reached r R.X p _ tt)
+  step-reached z z′ g (R.opens R.X) p q r e f h =
+      let sum = x-sum N n s p q g f in
+      moved-to (gives-is h) (opened-reached r R.X p _ (omega (arith, r .x, r .order)))
   step-reached z z′ g (R.subtracts t) p q r e f h = let (v, o) = next-gives _ _ h in moved-to (sym o) (worked-reached r v _ _)
   step-reached z z′ g R.divides p q r e f h = let (v, o) = next-gives _ _ h in moved-to (sym o) (worked-reached r v _ _)
   step-reached z z′ g R.closes p q r e f h = let (u, o) = closes-busy (g .target) e in moved-to (gives-is h) (taken-reached r u o)
@@ -462,13 +485,13 @@ module _ (A B : List Float) (N n s : ℕ) where
   step-reached z z′ g R.none p q r e f h = moved-to (gives-is h) r
 
   -- so the records of a chain that release 1's check passes do what they did
-  follow-now : (vanished : ℕ) (z : R.State) (g : R.Progress) (c : R.Chain) → Reached z g → R.checkChain N n s g c ≡ R.fine
+  follow-now : (vanished : ℕ) (z : R.State) (g : R.Progress) (c : R.Chain) → Reached N z g → R.checkChain N n s g c ≡ R.fine
       → outcomeThen (followed (follow A B plusZero (stateNow vanished z) (chainNow c .links))) ≡ R.follow A B z c
   unfolding R.follow follow followed
   follow-now vanished z g (R.link index k p q rest) r e =
       let f = link-fine N n s index k p q g rest e in
       let (gone, now) = step-now vanished z g (R.kindOf k) p q r (f .eleven) in
-      rw (follow, kind-now k, now) (go gone (R.step A B z (R.kindOf k) p q)
+      rw (follow, kind-now k (nine-kinds k p q (f .ten)), now) (go gone (R.step A B z (R.kindOf k) p q)
       (λ z′ h. follow-now gone z′ (R.onward (R.kindOf k) g) rest (step-reached z z′ g (R.kindOf k) p q r (f .eleven) (f .twelve) h) (f .later)) refl)
     where
       go : (gone : ℕ) (a : R.Answer R.State)
@@ -495,9 +518,9 @@ unfolding R.notFinite notFinite
 not-finite-frozen k [] = refl
 not-finite-frozen k (v ∷ vs) = rw (finite-frozen, not-finite-frozen (suc k) vs)
 
-fresh-reached : (N : ℕ) → Reached (R.fresh N) begunThen
+fresh-reached : (N : ℕ) → Reached N (R.fresh N) begunThen
 unfolding OpenAt
-fresh-reached N = record { c = refl; target = tt }
+fresh-reached N = record { order = refl; c = refl; x = refl; target = tt }
 
 -- what f makes of a check: of the refusal unless the test holds, then of what comes after
 required-frozen : {T : Type 0} (f : R.Verdict → T) {test test′ : Bool} (r d : ℕ) (v : R.Verdict) {w : T} → test ≡ test′ → f v ≡ w
@@ -533,26 +556,37 @@ gated-frozen A B true now {past} e = rw (← values-frozen A B) (by (fifteen A B
 -- what the caller is told, without the new numbers
 reply-then : (o : Outcome) → replyThen (reply o) ≡ R.reply (outcomeThen o)
 unfolding reply R.reply
-reply-then (solution t products quotients vanished) = refl
+reply-then (solution t products quotients vanished sweeps) = refl
 reply-then (stopped r index C k) = refl
 reply-then (stopped r index Y k) = refl
 reply-then (stopped r index X k) = refl
 reply-then (refusedBy r d) = refl
+reply-then (unsettledAt t) = refl
 
--- leaves what it left
-leaves-then : (o : Outcome) (t : R.Table) (vs : List Float) → leaves o (tableNow t) vs ≡ R.leaves (outcomeThen o) t vs
-unfolding leaves R.leaves
-leaves-then (solution u p q g) R.C vs = refl
-leaves-then (solution u p q g) R.Y vs = refl
-leaves-then (solution u p q g) R.X vs = refl
-leaves-then (stopped r index u k) t vs = refl
-leaves-then (refusedBy r d) t vs = refl
+-- leaves what it left: 27 is a sweep's alone
+leaves-then : (f : Followed) (t : R.Table) (vs : List Float) → leaves (followed f) (tableNow t) vs ≡ R.leaves (outcomeThen (followed f)) t vs
+unfolding followed leaves R.leaves
+leaves-then (through z) R.C vs = refl
+leaves-then (through z) R.Y vs = refl
+leaves-then (through z) R.X vs = refl
+leaves-then (halted r index u k) t vs = refl
+
+-- the test of release 1's 8
+abbrev pub eightThen : List ℕ → Bool
+eightThen W = R.within (R.word W 0) 600 && (leb (R.word W 1) (R.word W 0 * R.word W 0)
+    && (leb (R.word W 0) (R.word W 2) && leb (R.word W 2) (R.word W 0 * R.word W 0)))
+
+-- it asked for N slots or more, N being 1 or more
+pub slots-then : (W : List ℕ) → eightThen W ≡ true → (1 ≤ word W 0) × (word W 0 ≤ word W 2)
+slots-then W e =
+    let order = both (within (word W 0) 600) _ e in
+    let labels = both (leb (word W 1) (word W 0 * word W 0)) _ (order .1) in
+    (within-range (word W 0) 600 (order .0) .0, leb-true (word W 0) (word W 2) (both (leb (word W 0) (word W 2)) _ (labels .1) .0))
 
 -- what passes release 1's 7 to 13
 pub record AcceptedThen (W : List ℕ) : Type 0 where
   pub seven : (ltb 0 (length W) && (eqb (length W % 4) 0 && leb (length W / 4) 100000000)) ≡ true
-  pub eight : (R.within (R.word W 0) 600 && (leb (R.word W 1) (R.word W 0 * R.word W 0)
-      && (leb (R.word W 0) (R.word W 2) && leb (R.word W 2) (R.word W 0 * R.word W 0)))) ≡ true
+  pub eight : eightThen W ≡ true
   pub along : R.checkChain (R.word W 0) (R.word W 1) (R.word W 2) begunThen (R.chain W) ≡ R.fine
 
 pub accepted : (W : List ℕ) → R.check W ≡ R.fine → AcceptedThen W
@@ -566,6 +600,10 @@ module _ (W : List ℕ) (accepts : R.check W ≡ R.fine) where
   passed : AcceptedThen W
   passed = accepted W accepts
 
+  -- it has slots, so it is no sweep
+  crout : isSweep (word W 2) ≡ false
+  crout = ne-eqb (word W 2) 0 (λ e. omega (arith, slots-then W (passed .eight)))
+
   -- The headline for the checks: today's pass it.
   pub check-kept : check W ≡ fine
   check-kept =
@@ -574,13 +612,12 @@ module _ (W : List ℕ) (accepts : R.check W ≡ R.fine) where
       let order = both (within (word W 0) 600) _ (passed .eight) in
       let labels = both (leb (word W 1) (word W 0 * word W 0)) _ (order .1) in
       let slots = both (leb (word W 0) (word W 2)) (leb (word W 2) (word W 0 * word W 0)) (labels .1) in
-      let some-slots : 1 ≤ word W 2 = omega (arith, within-range (word W 0) 600 (order .0), leb-true (word W 0) (word W 2) (slots .0)) in
       passed-fine W (record {
         some = ltb-true 0 (length W) (some .0);
         fours = eqb-true (length W % 4) 0 (size .0);
         few = leb-true (length W / 4) 100000000 (size .1);
-        head = rw (order .0, labels .0, le-leb 1 (word W 2) some-slots, slots .1);
-        links = rw (← chain-frozen W) (links-now (word W 0) (word W 1) (word W 2) _ (R.chain W) (passed .along));
+        head = rw (order .0, labels .0, slots .1);
+        links = rw (← chain-frozen W) (links-now (word W 0) (word W 1) (word W 2) crout _ (R.chain W) (passed .along));
       })
 
   module _ (A B : List Float) (lc ly lx : ℕ) where
@@ -594,12 +631,19 @@ module _ (W : List ℕ) (accepts : R.check W ≡ R.fine) where
     along-kept =
         rw (← chain-frozen W) (follow-now A B (word W 0) (word W 1) (word W 2) 0 (R.fresh (word W 0)) _ (R.chain W) (fresh-reached (word W 0)) (passed .along))
 
+    -- 14's test
+    abbrev rightThen : Bool
+    rightThen = eqb (length A) (word W 1) && (eqb (length B) (word W 0) && (eqb lc (word W 2) && (eqb ly (word W 0) && eqb lx (word W 0))))
+
+    ran-gated : ran W A B plusZero lc ly lx ≡ gated (refusedBy 14 0) refusedBy rightThen (checkValues A B plusZero) alongNow
+    unfolding doneBy lengthsRight
+    ran-gated = ran-fine W A B plusZero lc ly lx check-kept ∙ rw (crout, doneBy)
+
     -- The headline for the run: with limit +0 it ends as it did,
     pub ran-kept : outcomeThen (ran W A B plusZero lc ly lx) ≡ R.ran W A B lc ly lx
-    unfolding R.ran R.checkValues ranBy lengthsRight
+    unfolding R.ran R.checkValues
     ran-kept =
-        ap outcomeThen (ran-is W A B plusZero lc ly lx ∙ ap (ranBy W A B plusZero lc ly lx) check-kept)
-        ∙ gated-frozen A B (lengthsRight (word W 0) (word W 1) (word W 2) (length A) (length B) lc ly lx) alongNow along-kept
+        ap outcomeThen ran-gated ∙ gated-frozen A B rightThen alongNow along-kept
         ∙ ap (λ v. R.after v (R.after (R.checkValues (word W 0) (word W 1) (word W 2) A B lc ly lx) alongThen)) (sym accepts)
 
     -- tells the caller what it told,
@@ -608,5 +652,7 @@ module _ (W : List ℕ) (accepts : R.check W ≡ R.fine) where
 
     -- and leaves what it left.
     pub leaves-kept : (t : R.Table) (vs : List Float) → leaves (ran W A B plusZero lc ly lx) (tableNow t) vs ≡ R.leaves (R.ran W A B lc ly lx) t vs
+    unfolding leaves R.leaves
     leaves-kept t vs =
-        leaves-then (ran W A B plusZero lc ly lx) t vs ∙ ap (λ o. R.leaves o t vs) ran-kept
+        rw ran-gated (gated-each (refusedBy 14 0) refusedBy (λ o. leaves o (tableNow t) vs ≡ R.leaves (outcomeThen o) t vs) rightThen _ alongNow
+        refl (λ r d e. refl) (leaves-then _ t vs)) ∙ ap (λ o. R.leaves o t vs) ran-kept

@@ -1,14 +1,15 @@
 -- What release 1, here R, accepts: the programs with at least N slots that pass today's checks and open each slot once; so every program that the plain
--- compiler writes.
-use Prim.Native.Nat.{ℕ, zero, suc, _+_, _*_, _/_, _%_, _≤_, max}
+-- compiler writes, and no sweep.
+use Prim.Native.Nat.{ℕ, zero, suc, _+_, _*_, _/_, _%_, _≤_, _<_, max}
+use native.Mathlib.Nat.{mul-le-mul}
 use native.Mathlib.Omega.{arith}
 use mathlib.Core.Path.{_≡_, refl, sym, ap, ap₂, subst, _∙_}
-use mathlib.Core.Bool.{Bool, true, false, cond, true≢false}
+use mathlib.Core.Bool.{Bool, true, false, cond, not, _&&_, true≢false}
 use mathlib.Core.Logic.{_↔_}
 use mathlib.Core.List.{List, [], _∷_, List·Memᴰ·head, List·Memᴰ·tail}
-use borrow.Author.Tests.{lt-ltb, leb-true, le-leb, eq-eqb, eqb-true}
-use lib.Dec.{eqb, leb}
-use lib.ListN.{length}
+use borrow.Author.Tests.{lt-ltb, leb-true, le-leb, eq-eqb, eqb-true, ne-eqb}
+use lib.Dec.{eqb, leb, ltb}
+use lib.ListN.{length, length-map}
 use lib.Ieee.{Float}
 use Rattle.model.specs.Release1 as R
 use Rattle.model.specs.Lists.{rising}
@@ -16,10 +17,14 @@ use Rattle.model.specs.Label.{within, isOrder}
 use Rattle.model.specs.Fill.{Plan, missing}
 use Rattle.model.specs.Formula.{Table, C, Y, X}
 use Rattle.model.specs.Program.{Record, rec, compiled}
+use Rattle.model.specs.Sweep.{rowFormula, rowFormulas, plannedRows, sweepRecords, compiledSweep}
 use Rattle.model.specs.Compile.{judged, good}
 use Rattle.model.specs.Check.{Link, Kind, opens, subtracts, divides, closes, closesPivot, none, kindOf, Open, idle, busy, End, whole, broken}
-use Rattle.model.specs.Check.{Progress, fine, inOrder, inTurn, counted, onward, isIdle, complete, checkLinks, check, chain, word}
-use Rattle.model.proofs.Lists.{Each, length-rising}
+use Rattle.model.specs.Check.{Progress, fine, isSweep, belongs, formed, inOrder, inTurn, allowed, counted, onward, isIdle, complete, checkLinks}
+use Rattle.model.specs.Check.{check, chain, word}
+use Rattle.model.proofs.Lists.{Each, length-rising, map-rising}
+use Rattle.model.proofs.Search.{kept-at-most}
+use Rattle.model.proofs.Sums.{rising-at-most}
 use Rattle.model.proofs.Within.{within-range}
 use Rattle.model.proofs.Slots.{slots-at-least}
 use Rattle.model.proofs.Plans.{pivot-held}
@@ -27,11 +32,14 @@ use Rattle.model.proofs.Plain.{Phase, Plain, ends, opens-c, opens-y, op
 use Rattle.model.proofs.Plain.{divides, closes-c, closes-pivot, closes-y, closes-x, records-plain}
 use Rattle.model.proofs.Checked.{program-fine}
 use Rattle.model.proofs.Renaming.{openSlot}
+use Rattle.model.proofs.Tally.{productsOf, quotientsOf}
+use Rattle.model.proofs.Counts.{records-of}
+use Rattle.model.proofs.SweepCounts.{isPlanned, plannedRow, length-rows}
 use Rattle.model.proofs.Links.{linksFrom}
-use Rattle.model.proofs.Chain.{program-chain}
+use Rattle.model.proofs.Chain.{chained-length, program-chain}
 use Rattle.model.proofs.Passing.{both, refused-fine, link-passed, end-passed, fine-passed}
 use Rattle.model.proofs.Release1.{chainNow, kindNow, openNow, begunThen, progressNow, chain-frozen, kind-now, formed-now, order-now, onward-now}
-use Rattle.model.proofs.Release1.{complete-now, next-c, link-fine, required-passed, accepted, check-kept}
+use Rattle.model.proofs.Release1.{nine-kinds, complete-now, next-c, link-fine, required-passed, eightThen, slots-then, accepted, check-kept}
 
 -- ---- how far the slots get
 
@@ -76,7 +84,16 @@ counted-top g = go (g .target) refl
     go (busy Y k) e = refl
     go (busy X k) e = refl
 
-module _ (N n s : ℕ) where
+module _ (N n s : ℕ) (crout : isSweep s ≡ false) where
+  -- what today's 10 and 12 let through
+  crout-kind : (k : ℕ) → belongs s k ≡ true → within k 9 ≡ true
+  unfolding belongs
+  crout-kind k e = rw (belongs, crout) at e
+
+  crout-turn : (k : Kind) (p q : ℕ) (g : Progress) → allowed N n s k p q g ≡ true → inTurn N n s k p q g ≡ true
+  unfolding allowed
+  crout-turn k p q g e = rw (allowed, crout) at e
+
   -- an opening of C adds at most one, and no other record any
   onward-top : (k : Kind) (p q : ℕ) (g : Progress) → inOrder k (g .target) ≡ true → inTurn N n s k p q g ≡ true
       → top (onward k p q g) ≤ cond (opensC k) 1 0 + top g
@@ -110,7 +127,7 @@ module _ (N n s : ℕ) where
   reaches g [] (broken k) passes = absurd (refused-fine _ _ passes)
   reaches g (l ∷ ls) e passes =
       let p = link-passed N n s g l ls e passes in
-      omega (arith, reaches _ ls e (p .later), onward-top (kindOf (l .at .kind)) (l .at .p) (l .at .q) g (p .eleven) (p .twelve))
+      omega (arith, reaches _ ls e (p .later), onward-top (kindOf (l .at .kind)) (l .at .p) (l .at .q) g (p .eleven) (crout-turn _ _ _ g (p .twelve)))
 
   -- where no more openings than slots are left, m of them after this record, C opens in turn as release 1 asks
   turn-then : (k : R.Kind) (p q : ℕ) (g : R.Progress) (m : ℕ) → inOrder (kindNow k) (progressNow N g .target) ≡ true
@@ -138,18 +155,19 @@ module _ (N n s : ℕ) where
   unfolding openingCount checkLinks R.checkChain R.required
   passes-then g (R.link index k p q rest) passes few =
       let o = link-passed N n s (progressNow N g) (record { index = index; at = rec k p q }) (chainNow rest .links) (chainNow rest .end) passes in
-      let kind = kind-now k in
+      let ten = both (belongs s k) (formed (kindOf k) p q) (o .ten) in
+      let kind = kind-now k (crout-kind k (ten .0)) in
       let order = rw kind at (o .eleven) in
-      let turn = rw kind at (o .twelve) in
+      let turn = rw kind at (crout-turn _ _ _ (progressNow N g) (o .twelve)) in
       let later = rw kind at (o .later) in
       let m = openingCount (chainNow rest .links) in
       let left = reaches _ (chainNow rest .links) (chainNow rest .end) later in
       let twelve = turn-then (R.kindOf k) p q g m order turn left (rw kind at few) in
       let on = onward-now N n s (R.kindOf k) p q g twelve in
       let adds = onward-top (kindNow (R.kindOf k)) p q (progressNow N g) order turn in
-      rw (formed-now (R.kindOf k) p q ∙ (rw kind at (o .ten)), order-now N (g .c) (g .y) (g .x) (R.kindOf k) (g .target) ∙ order, twelve)
+      rw (formed-now (R.kindOf k) p q ∙ (rw kind at (ten .1)), order-now N (g .c) (g .y) (g .x) (R.kindOf k) (g .target) ∙ order, twelve)
       (passes-then (R.onward (R.kindOf k) g) rest (rw on later) (subst (λ h. top h + m ≤ s) (sym on) (omega (arith, adds, rw kind at few))))
-  passes-then g R.whole passes few = rw (← complete-now N n s g, end-passed N s (progressNow N g) passes)
+  passes-then g R.whole passes few = rw (← complete-now N n s crout g, end-passed N s (progressNow N g) passes)
   passes-then g (R.broken k) passes few = absurd (refused-fine _ _ passes)
 
 -- The headline: what passes today's checks, has at least N slots and opens no more than these is accepted by release 1.
@@ -159,10 +177,10 @@ accepted-then W passes slots few =
     let p = fine-passed W passes in
     let order = both (within (word W 0) 600) _ (p .head) in
     let labels = both (leb (word W 1) (word W 0 * word W 0)) _ (order .1) in
-    let high = both (leb 1 (word W 2)) (leb (word W 2) (word W 0 * word W 0)) (labels .1) in
+    let crout = ne-eqb (word W 2) 0 (λ e. omega (arith, within-range (word W 0) 600 (order .0))) in
     rw (lt-ltb 0 (length W) (p .some), eq-eqb (length W % 4) 0 (p .fours), le-leb (length W / 4) 100000000 (p .few))
-    (rw (order .0, labels .0, le-leb (word W 0) (word W 2) slots, high .1)
-    (passes-then (word W 0) (word W 1) (word W 2) begunThen (R.chain W) (rw (chain-frozen W) (p .links)) (rw (chain-frozen W) (omega arith))))
+    (rw (order .0, labels .0, le-leb (word W 0) (word W 2) slots, labels .1)
+    (passes-then (word W 0) (word W 1) (word W 2) crout begunThen (R.chain W) (rw (chain-frozen W) (p .links)) (rw (chain-frozen W) (omega arith))))
 
 -- ---- what release 1 accepts opens its slots in turn
 
@@ -226,7 +244,8 @@ module _ (N n s : ℕ) where
       let f = link-fine N n s index k p q g rest passes in
       let turn = turn-of (R.kindOf k) p q g (sym (order-now N (g .c) (g .y) (g .x) (R.kindOf k) (g .target)) ∙ f .eleven) (f .twelve) in
       let adds = ap top (onward-now N n s (R.kindOf k) p q g (f .twelve)) ∙ turn .adds in
-      rw (kind-now k) (go (opensC (kindNow (R.kindOf k))) m (turn .next) adds e (λ m. opened-in-turn (R.onward (R.kindOf k) g) rest m (f .later)))
+      rw (kind-now k (nine-kinds k p q (f .ten)))
+      (go (opensC (kindNow (R.kindOf k))) m (turn .next) adds e (λ m. opened-in-turn (R.onward (R.kindOf k) g) rest m (f .later)))
     where
       h : R.Progress
       h = R.onward (R.kindOf k) g
@@ -252,14 +271,8 @@ slots-in-turn W accepts =
 
 -- So release 1 accepts exactly what passes today, has at least N slots and opens no more than these.
 pub accepts-then-exactly : (W : List ℕ) → (R.check W ≡ R.fine) ↔ ((check W ≡ fine) × (word W 0 ≤ word W 2) × (openingCount (chain W .links) ≤ word W 2))
-accepts-then-exactly W = (λ a. (check-kept W a, enough a, few a), λ c. accepted-then W (c .0) (c .1) (c .2))
+accepts-then-exactly W = (λ a. (check-kept W a, slots-then W (accepted W a .eight) .1, few a), λ c. accepted-then W (c .0) (c .1) (c .2))
   where
-    enough : R.check W ≡ R.fine → word W 0 ≤ word W 2
-    enough a =
-        let labels = both (within (word W 0) 600) _ (accepted W a .eight) .1 in
-        let slots = both (leb (word W 1) (word W 0 * word W 0)) _ labels .1 in
-        leb-true (word W 0) (word W 2) (both (leb (word W 0) (word W 2)) _ slots .0)
-
     few : R.check W ≡ R.fine → openingCount (chain W .links) ≤ word W 2
     few a = omega (arith, opened-length (chain W .links), ap length (slots-in-turn W a), length-rising (λ k. k) 1 (word W 2))
 
@@ -290,6 +303,42 @@ program-accepted N L order labels pivots =
     let chain-is = ap (λ c. openingCount (c .links)) (program-chain N L (within-range N 600 order .0)) in
     accepted-then (compiled N L) (program-fine N L order labels pivots) (slots-at-least N L held)
     (omega (arith, chain-is, plain-opens 1 (records-plain N L held)))
+
+-- ---- sweeps
+
+-- The headline: "such a program has s = 0 in record 0, so an older runner refuses it by 8" (A.7), if it passes 7.
+pub sweep-refused : (W : List ℕ) → 0 < length W → length W % 4 ≡ 0 → length W / 4 ≤ 100000000 → word W 2 ≡ 0 → R.check W ≡ R.refusal 8 0
+unfolding R.check R.required
+sweep-refused W some fours few sweep =
+    rw (lt-ltb 0 (length W) some, eq-eqb (length W % 4) 0 fours, le-leb (length W / 4) 100000000 few, go (eightThen W) refl)
+  where
+    go : (b : Bool) → eightThen W ≡ b → b ≡ false
+    go true e = absurd (omega (arith, slots-then W e))
+    go false e = refl
+
+-- So it refuses what passes today's checks with s = 0.
+pub fine-sweep-refused : (W : List ℕ) → check W ≡ fine → word W 2 ≡ 0 → R.check W ≡ R.refusal 8 0
+fine-sweep-refused W passes = let p = fine-passed W passes in sweep-refused W (p .some) (p .fours) (p .few)
+
+-- a row of a compiled sweep has at most N products and one quotient
+sweep-few : (N : ℕ) (L : Plan) → length (sweepRecords N L) ≤ N * N + 3 * N
+unfolding sweepRecords productsOf quotientsOf plannedRows rowFormulas rowFormula
+sweep-few N L =
+    let row : (r : ℕ) → length (plannedRow N L r .products) ≤ N = λ r. rw length-map
+    (omega (arith, kept-at-most (λ j. not (eqb j r) && isPlanned N L r j) (rising (λ j. j) 1 N), length-rising (λ j. j) 1 N)) in
+    let products : productsOf (plannedRows N L) ≤ N * N = rw map-rising (rising-at-most _ N 1 N (λ r low high. row r)) in
+    let quotients = kept-at-most (λ f. ltb 0 (f .divisor)) (plannedRows N L) in
+    rw length-map (omega (arith, records-of (plannedRows N L), length-rows N L))
+
+-- It refuses every compiled sweep too, whatever the plan.
+pub compiled-sweep-refused : (N : ℕ) (L : Plan) → isOrder N ≡ true → R.check (compiledSweep N L) ≡ R.refusal 8 0
+unfolding compiledSweep
+compiled-sweep-refused N L order =
+    let high = within-range N 600 order .1 in
+    let square : N * N ≤ 600 * 600 = mul-le-mul {n₂ = 600} {m₂ = 600} high high in
+    let records = sweep-few N L in
+    let words = chained-length 1 (sweepRecords N L) in
+    sweep-refused (compiledSweep N L) (omega arith) (omega arith) (omega arith) refl
 
 -- ---- what a program that release 1 accepts may count on
 

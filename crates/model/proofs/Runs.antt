@@ -7,9 +7,9 @@ use borrow.Author.Tests.{eq-eqb, ne-eqb, eqb-true, eqb-false}
 use lib.Dec.{eqb}
 use lib.ListN.{length}
 use lib.Ieee.{Float}
-use Rattle.model.specs.Check.{Verdict, fine, refusal, check, chain, word}
+use Rattle.model.specs.Check.{Verdict, fine, refusal, isSweep, lengthY, check, chain, word}
 use Rattle.model.specs.Arith.{isLimit}
-use Rattle.model.specs.Run.{Outcome, refusedBy, notFinite, checkValues, fresh, follow, followed, ran}
+use Rattle.model.specs.Run.{Outcome, refusedBy, notFinite, checkValues, fresh, follow, followed, sweptOver, ran}
 use Rattle.model.proofs.Passing.{refused-fine}
 
 -- ---- 14, and then 15 and 21, whatever they lead to
@@ -98,12 +98,12 @@ module _ (A B : List Float) (limit : Float) where
 
 -- 14's test, for the lengths of A, B, C, Y and X
 unfoldable pub lengthsRight : ℕ → ℕ → ℕ → ℕ → ℕ → ℕ → ℕ → ℕ → Bool
-lengthsRight N n s a b c y x = eqb a n && (eqb b N && (eqb c s && (eqb y N && eqb x N)))
+lengthsRight N n s a b c y x = eqb a n && (eqb b N && (eqb c s && (eqb y (lengthY N s) && eqb x N)))
 
-pub lengths-right : (N n s a b c y x : ℕ) → a ≡ n → b ≡ N → c ≡ s → y ≡ N → x ≡ N → lengthsRight N n s a b c y x ≡ true
+pub lengths-right : (N n s a b c y x : ℕ) → a ≡ n → b ≡ N → c ≡ s → y ≡ lengthY N s → x ≡ N → lengthsRight N n s a b c y x ≡ true
 unfolding lengthsRight
 lengths-right N n s a b c y x ea eb ec ey ex =
-    ap₂ _&&_ (eq-eqb a n ea) (ap₂ _&&_ (eq-eqb b N eb) (ap₂ _&&_ (eq-eqb c s ec) (ap₂ _&&_ (eq-eqb y N ey) (eq-eqb x N ex))))
+    ap₂ _&&_ (eq-eqb a n ea) (ap₂ _&&_ (eq-eqb b N eb) (ap₂ _&&_ (eq-eqb c s ec) (ap₂ _&&_ (eq-eqb y (lengthY N s) ey) (eq-eqb x N ex))))
 
 pub right-lengths : (N n s a b c y x : ℕ) → lengthsRight N n s a b c y x ≡ true → (a ≡ n) × (b ≡ N)
 unfolding lengthsRight
@@ -111,26 +111,33 @@ right-lengths N n s a b c y x e =
     let first = and-eq-true-iff (eqb a n) _ .0 e in
     (eqb-true a n (first .0), eqb-true b N (and-eq-true-iff (eqb b N) _ .0 (first .1) .0))
 
+-- what the records give, by the method
+unfoldable pub doneBy : List ℕ → List Float → List Float → Float → Bool → Outcome
+doneBy W A B limit sweep = elim sweep [
+  | true ↦ sweptOver A B limit (word W 0) (chain W .links)
+  | false ↦ followed (follow A B limit (fresh (word W 0)) (chain W .links))
+]
+
 module _ (W : List ℕ) (A B : List Float) (limit : Float) (c y x : ℕ) where
   -- a run by the verdict of 7 to 13, and then by 14, 15 and 21
   unfoldable pub ranBy : Verdict → Outcome
   ranBy v = elim v [
     | refusal r d ↦ refusedBy r d
     | fine ↦ gated (refusedBy 14 0) refusedBy (lengthsRight (word W 0) (word W 1) (word W 2) (length A) (length B) c y x) (checkValues A B limit)
-        (followed (follow A B limit (fresh (word W 0)) (chain W .links)))
+        (doneBy W A B limit (isSweep (word W 2)))
   ]
 
   pub ran-is : ran W A B limit c y x ≡ ranBy (check W)
-  unfolding ran ranBy gated lengthsRight
+  unfolding ran ranBy gated lengthsRight doneBy
   ran-is = refl
 
   pub ran-fine : check W ≡ fine → ran W A B limit c y x
       ≡ gated (refusedBy 14 0) refusedBy (lengthsRight (word W 0) (word W 1) (word W 2) (length A) (length B) c y x) (checkValues A B limit)
-      (followed (follow A B limit (fresh (word W 0)) (chain W .links)))
+      (doneBy W A B limit (isSweep (word W 2)))
   unfolding ranBy
   ran-fine e = ran-is ∙ ap ranBy e
 
   -- and where nothing is refused, what the records give
   pub runs-open : check W ≡ fine → lengthsRight (word W 0) (word W 1) (word W 2) (length A) (length B) c y x ≡ true → checkValues A B limit ≡ fine
-      → ran W A B limit c y x ≡ followed (follow A B limit (fresh (word W 0)) (chain W .links))
+      → ran W A B limit c y x ≡ doneBy W A B limit (isSweep (word W 2))
   runs-open e l r = ran-fine e ∙ gated-open _ _ _ _ _ l r

@@ -2,26 +2,28 @@
 use Prim.Native.Nat.{ℕ, zero, suc, _+_, _*_, _/_, _%_, _≤_}
 use mathlib.Core.Path.{_≡_, refl, sym}
 use mathlib.Core.Bool.{Bool, true, false, cond, _&&_}
-use mathlib.Core.List.{List, [], _∷_}
+use mathlib.Core.List.{List, [], _∷_, map}
 use native.Mathlib.Omega.{arith}
 use native.Mathlib.Nat.{mul-le-mul}
 use lib.Dec.{eqb, leb, ltb}
 use lib.ListN.{length}
 use lib.Ieee.{Float}
 use borrow.Author.Tests.{ltb-true, eqb-false}
-use Rattle.model.specs.Label.{isOrder, within}
-use Rattle.model.specs.Fill.{Plan, missing, productCount, recordCount}
+use Rattle.model.specs.Label.{isOrder, within, label}
+use Rattle.model.specs.Fill.{Plan, position, missing}
 use Rattle.model.specs.Check as Check
 use Rattle.model.specs.Check.{Link, Kind, opens, subtracts, divides, closes, closesPivot, none, Progress, Verdict, fine}
 use Rattle.model.specs.Check.{End, whole, broken, Chain, chainAfter, chain, nextOf, recordAt, before}
-use Rattle.model.specs.Check.{kindOf, formed, inOrder, inTurn, onward, complete, checkLinks, check, begun, word}
-use Rattle.model.specs.Arith.{Answer, number, overflow, zeroDivisor, quotient, isFinite, vanishes, isSmall}
+use Rattle.model.specs.Check.{kindOf, isSweep, belongs, formed, inOrder, allowed, onward, complete, checkLinks, check, begun, word}
+use Rattle.model.specs.Arith.{Answer, number, overflow, zeroDivisor, clean, quotient, isFinite, vanishes, isSmall}
 use Rattle.model.specs.Formula.{C, Y, X, entry, less}
-use Rattle.model.specs.Run.{State, refusedBy, fresh, Stepped, going, stop, closing, subtracted, dividedBy, settledStep, step}
-use Rattle.model.specs.Run.{Followed, through, halted, follow, followed, notFinite, checkValues, ran}
-use Rattle.model.specs.Run.{Reply, solves, stops, refuses, reply}
+use Rattle.model.specs.Sweep.{bareFrom, bare, Once, swept, ends, Sweeps, settled, unsettled, ended, sweeping, moved, mostSweeps, loaded}
+use Rattle.model.specs.Run.{State, Outcome, solution, refusedBy, unsettledAt, startedOn, fresh, Stepped, going, stop}
+use Rattle.model.specs.Run.{closing, subtracted, dividedBy, settledStep, step, Followed, through, halted, follow, followed}
+use Rattle.model.specs.Run.{onceMore, onlyX, sweptOver, notFinite, checkValues, ran, Reply, solves, stops, refuses, reply}
 use Rattle.model.specs.Compile as Compile
-use Rattle.model.specs.Compile.{Compiled, written, Labels, good, bad, judged, Compiler, plain, compact, wanted, slotsBy, compilesBy, compiles}
+use Rattle.model.specs.Compile.{Compiled, written, Labels, good, bad, judged, Compiler, plain, compact, sweep, wanted, gap, gapAt}
+use Rattle.model.specs.Compile.{slotsBy, productsBy, recordsBy, compilesBy, compiles}
 use Rattle.model.specs.Program.{compiled}
 use Rattle.model.specs.Solve.{replied}
 use Rattle.model.specs.File as File
@@ -31,7 +33,7 @@ use Rattle.model.proofs.Within.{within-range}
 use Rattle.model.proofs.Plans.{missing-free}
 use Rattle.model.proofs.Compiles.{orderedBy, admittedBy, answeredBy, compiles-is, compiles-success}
 use Rattle.model.proofs.Passing.{refused-fine}
-use Rattle.model.proofs.Runs.{gated-each, values-each, lengthsRight, ranBy, ran-is}
+use Rattle.model.proofs.Runs.{gated-each, values-each, lengthsRight, doneBy, ranBy, ran-is}
 use Rattle.model.proofs.Counts.{words-counted}
 use Rattle.model.proofs.Bounds.{records-at-most}
 
@@ -91,9 +93,8 @@ links-small b N n s g [] whole ls e = step (complete N s g)
     step false = omega arith
 links-small b N n s g [] (broken k) ls e = omega arith
 links-small b N n s g (l ∷ ls) end (h, hs) e =
-    step (formed (kindOf (l .at .kind)) (l .at .p) (l .at .q)) (inOrder (kindOf (l .at .kind)) (g .target))
-    (inTurn N n s (kindOf (l .at .kind)) (l .at .p) (l .at .q) g)
-    (links-small b N n s (onward (kindOf (l .at .kind)) (l .at .p) (l .at .q) g) ls end hs e)
+    step (belongs s (l .at .kind) && formed (kindOf (l .at .kind)) (l .at .p) (l .at .q)) (inOrder (kindOf (l .at .kind)) (g .target))
+    (allowed N n s (kindOf (l .at .kind)) (l .at .p) (l .at .q) g) (links-small b N n s (onward (kindOf (l .at .kind)) (l .at .p) (l .at .q) g) ls end hs e)
   where
     rest : Verdict
     rest = checkLinks N n s (onward (kindOf (l .at .kind)) (l .at .p) (l .at .q) g) ls end
@@ -115,7 +116,7 @@ pub check-small : (W : List ℕ) → SmallVerdict (length W / 4) (check W)
 unfolding check chain
 check-small W =
     step (ltb 0 (length W) && (eqb (length W % 4) 0 && leb (length W / 4) 100000000))
-    (isOrder (word W 0) && (leb (word W 1) (word W 0 * word W 0) && (leb 1 (word W 2) && leb (word W 2) (word W 0 * word W 0))))
+    (isOrder (word W 0) && (leb (word W 1) (word W 0 * word W 0) && leb (word W 2) (word W 0 * word W 0)))
     (chain-up-to (length W / 4) W 0 (omega arith))
   where
     linked : Chain
@@ -192,33 +193,55 @@ judged-small N before k (x ∷ L) r d e = step (within x (N * N)) (ltb before x)
     step true false rest e = let r : 4 ≡ r = cc in let d : k ≡ d = cc in omega arith
     step true true rest e = omega (arith, rest e)
 
+-- so is the position of a row without its diagonal coefficient
+bare-small : (r d N : ℕ) (L : Plan) → bareFrom r d N L ≤ r + d
+unfolding bareFrom
+bare-small r zero N L = omega arith
+bare-small r (suc d) N L = step (eqb (position L (label N r r)) 0) (bare-small (suc r) d N L)
+  where
+    step : (b : Bool) → bareFrom (suc r) d N L ≤ suc r + d → cond b r (bareFrom (suc r) d N L) ≤ r + suc d
+    step true h = omega arith
+    step false h = omega arith
+
 wanted-small : (c : Compiler) (N : ℕ) → N ≤ 600 → wanted c N ≤ 100000000
 wanted-small plain N n = omega (arith, mul-le-mul {n₂ = 600} {m₂ = 600} n n)
 wanted-small compact N n = omega (arith, mul-le-mul {n₂ = 600} {m₂ = 600} n n)
+wanted-small sweep N n = omega (arith, mul-le-mul {n₂ = 600} {m₂ = 600} n n)
+
+gap-small : (c : Compiler) (N : ℕ) (L : Plan) → N ≤ 600 → eqb (gapAt c N L) 0 ≡ false → Small 100000000 (gap c) (gapAt c N L)
+unfolding bare
+gap-small plain N L n v = omega (arith, missing-free N L (eqb-false (missing N L) 0 v) .high)
+gap-small compact N L n v = omega (arith, missing-free N L (eqb-false (missing N L) 0 v) .high)
+gap-small sweep N L n v = omega (arith, bare-small 1 N N L)
+
+records-small : (c : Compiler) (N : ℕ) (L : Plan) → N ≤ 600 → recordsBy c N L ≤ 100000000 + length L
+records-small plain N L n = omega (arith, records-at-most N L n)
+records-small compact N L n = omega (arith, records-at-most N L n)
+records-small sweep N L n = omega arith
 
 pub compiles-small : (c : Compiler) (N : ℕ) (L : Plan) (work words : ℕ) → SmallCompiled (100000000 + length L) (compilesBy c N L work words)
 unfolding orderedBy admittedBy answeredBy
 compiles-small c N L work words =
     rw (compiles-is c N L work words)
-    (step (isOrder N) (leb (wanted c N) work) (judged N 0 1 L) (eqb (missing N L) 0) (leb (4 * recordCount N L) words) refl refl refl)
+    (step (isOrder N) (leb (wanted c N) work) (judged N 0 1 L) (eqb (gapAt c N L) 0) (leb (4 * recordsBy c N L) words) refl refl refl)
   where
     done : Compiled
-    done = written (slotsBy c N L) (productCount N L) (recordCount N L)
+    done = written (slotsBy c N L) (productsBy c N L) (recordsBy c N L)
 
-    step : (order room : Bool) (labels : Labels) (pivots fits : Bool) → isOrder N ≡ order → judged N 0 1 L ≡ labels → eqb (missing N L) 0 ≡ pivots
+    step : (order room : Bool) (labels : Labels) (complete fits : Bool) → isOrder N ≡ order → judged N 0 1 L ≡ labels → eqb (gapAt c N L) 0 ≡ complete
         → SmallCompiled (100000000 + length L)
-        (answeredBy (admittedBy (orderedBy order room labels (wanted c N)) pivots (missing N L)) fits (recordCount N L) done)
-    step false room labels pivots fits o j v = omega arith
-    step true false labels pivots fits o j v = omega (arith, wanted-small c N (within-range N 600 o .1))
-    step true true (bad r d) pivots fits o j v = omega (arith, judged-small N 0 1 L r d j)
-    step true true good false fits o j v = omega (arith, within-range N 600 o .1, missing-free N L (eqb-false (missing N L) 0 v) .high)
-    step true true good true false o j v = omega (arith, records-at-most N L (within-range N 600 o .1))
+        (answeredBy (admittedBy (orderedBy order room labels (wanted c N)) complete (gap c) (gapAt c N L)) fits (recordsBy c N L) done)
+    step false room labels complete fits o j v = omega arith
+    step true false labels complete fits o j v = omega (arith, wanted-small c N (within-range N 600 o .1))
+    step true true (bad r d) complete fits o j v = omega (arith, judged-small N 0 1 L r d j)
+    step true true good false fits o j v = omega (arith, gap-small c N L (within-range N 600 o .1) v)
+    step true true good true false o j v = omega (arith, records-small c N L (within-range N 600 o .1))
     step true true good true true o j v = tt
 
 -- ---- the run
 
 abbrev pub SmallReply : ℕ → Reply → Type 0
-SmallReply b (solves products quotients vanished) = Unit {0}
+SmallReply b (solves products quotients vanished sweeps) = Unit {0}
 SmallReply b (stops r index t k) = Small b r index
 SmallReply b (refuses r d) = Small b r d
 
@@ -270,6 +293,62 @@ unfolding followed reply
 followed-small b (through z) h = tt
 followed-small b (halted r index t k) h = h
 
+-- what one sweep ends in, and what sweeps end in
+abbrev SmallOnce : ℕ → Once State Outcome → Type 0
+SmallOnce b (swept z) = Unit {0}
+SmallOnce b (ends o) = SmallReply b (reply o)
+
+abbrev SmallSweeps : ℕ → Sweeps State Outcome → Type 0
+SmallSweeps b (settled z k) = Unit {0}
+SmallSweeps b (unsettled z) = Unit {0}
+SmallSweeps b (ended o) = SmallReply b (reply o)
+
+once-small : (b : ℕ) (f : Followed) → SmallFollowed b f → SmallOnce b (onceMore f)
+unfolding reply
+once-small b (through z) h = tt
+once-small b (halted r index t k) h = h
+
+sweeping-small : (b : ℕ) (once : State → Once State Outcome) (moves : State → State → Bool) → ((z : State) → SmallOnce b (once z)) → (d k : ℕ) (z : State)
+    → SmallSweeps b (sweeping once moves d k z)
+unfolding sweeping
+sweeping-small b once moves small zero k z = tt
+sweeping-small b once moves small (suc d) k z = go (once z) (small z) (λ w. sweeping-small b once moves small d (suc k) w)
+  where
+    go : (o : Once State Outcome) → SmallOnce b o → ((w : State) → SmallSweeps b (sweeping once moves d (suc k) w))
+        → SmallSweeps b (elim o as (λ o. Sweeps State Outcome) [
+          | ends e ↦ ended e
+          | swept w ↦ elim (moves z w) as (λ m. Sweeps State Outcome) [ true ↦ sweeping once moves d (suc k) w | false ↦ settled w (suc k) ]
+        ])
+    go (ends e) h rest = h
+    go (swept w) h rest = test (moves z w)
+      where
+        test : (m : Bool) → SmallSweeps b (elim m as (λ m. Sweeps State Outcome) [ true ↦ sweeping once moves d (suc k) w | false ↦ settled w (suc k) ])
+        test true = rest w
+        test false = tt
+
+swept-small : (b : ℕ) (A B : List Float) (limit : Float) (N : ℕ) (ls : List Link) → LinksUpTo b ls → SmallReply b (reply (sweptOver A B limit N ls))
+unfolding sweptOver reply
+swept-small b A B limit N ls up =
+    go (sweeping once moves mostSweeps 0 (startedOn (loaded N (map clean A) B)))
+    (sweeping-small b once moves (λ z. once-small b (follow A B limit z ls) (follow-small b A B limit z ls up)) mostSweeps 0
+    (startedOn (loaded N (map clean A) B)))
+  where
+    once : State → Once State Outcome
+    once z = onceMore (follow A B limit z ls)
+
+    moves : State → State → Bool
+    moves z w = moved limit N (z .tables .x) (w .tables .x)
+
+    go : (s : Sweeps State Outcome) → SmallSweeps b s
+        → SmallReply b (reply (elim s as (λ s. Outcome) [
+          | settled z k ↦ solution (onlyX (z .tables)) (z .products) (z .quotients) (z .vanished) k
+          | unsettled z ↦ unsettledAt (onlyX (z .tables))
+          | ended e ↦ e
+        ]))
+    go (settled z k) h = tt
+    go (unsettled z) h = omega arith
+    go (ended e) h = h
+
 -- the position of a value that isn't finite is one of its list's
 not-finite-small : (k : ℕ) (vs : List Float) → notFinite k vs ≤ k + length vs
 unfolding notFinite
@@ -293,27 +372,28 @@ values-small A B limit r d =
     at n k small e = let same : n ≡ r = cc in let same-detail : k ≡ d = cc in omega arith
 
 pub ran-small : (W : List ℕ) (A B : List Float) (limit : Float) (c y x : ℕ) → SmallReply (1 + length W + length A + length B) (reply (ran W A B limit c y x))
-unfolding ranBy reply chain
+unfolding ranBy reply chain doneBy
 ran-small W A B limit c y x = rw (ran-is W A B limit c y x) (go (check W) (check-small W))
   where
     wider : (r : Reply) → SmallReply (length W / 4) r → SmallReply (1 + length W + length A + length B) r
-    wider (solves p q g) s = tt
+    wider (solves p q g k) s = tt
     wider (stops r k t n) s = omega arith
     wider (refuses r d) s = omega arith
 
     up : LinksUpTo (length W / 4) (chain W .links)
     up = chain-up-to (length W / 4) W 0 (omega arith) .0
 
-    done : SmallReply (length W / 4) (reply (followed (follow A B limit (fresh (word W 0)) (chain W .links))))
-    done = followed-small (length W / 4) _ (follow-small (length W / 4) A B limit (fresh (word W 0)) (chain W .links) up)
+    done : (sweep : Bool) → SmallReply (length W / 4) (reply (doneBy W A B limit sweep))
+    done true = swept-small (length W / 4) A B limit (word W 0) (chain W .links) up
+    done false = followed-small (length W / 4) _ (follow-small (length W / 4) A B limit (fresh (word W 0)) (chain W .links) up)
 
     go : (v : Verdict) → SmallVerdict (length W / 4) v → SmallReply (1 + length W + length A + length B) (reply (ranBy W A B limit c y x v))
     go (Check.refusal r d) s = omega arith
     go fine s =
         gated-each (refusedBy 14 0) refusedBy (λ o. SmallReply (1 + length W + length A + length B) (reply o))
         (lengthsRight (word W 0) (word W 1) (word W 2) (length A) (length B) c y x) (checkValues A B limit)
-        (followed (follow A B limit (fresh (word W 0)) (chain W .links))) (omega arith) (λ r d e. omega (arith, values-small A B limit r d e))
-        (wider (reply (followed (follow A B limit (fresh (word W 0)) (chain W .links)))) done)
+        (doneBy W A B limit (isSweep (word W 2))) (omega arith) (λ r d e. omega (arith, values-small A B limit r d e))
+        (wider (reply (doneBy W A B limit (isSweep (word W 2)))) (done (isSweep (word W 2))))
 
 -- ---- compiling and running
 
@@ -323,7 +403,7 @@ unfolding replied
 replied-small N L A B limit work words c y x = go (compiles N L work words) refl (compiles-small plain N L work words)
   where
     wider : (r : Reply) (k : ℕ) → k ≤ 400000000 → SmallReply (1 + k + length A + length B) r → SmallReply (400000001 + length L + length A + length B) r
-    wider (solves p q g) k h s = tt
+    wider (solves p q g i) k h s = tt
     wider (stops r i t n) k h s = omega arith
     wider (refuses r d) k h s = omega arith
 
@@ -333,5 +413,5 @@ replied-small N L A B limit work words c y x = go (compiles N L work words) refl
     go (Compile.refusal r d) e small = omega arith
     go (written s p r) e small =
         let k = compiles-success plain N L work words s p r e in
-        let few : length (compiled N L) ≤ 400000000 = omega (arith, words-counted N L (k .pivots), records-at-most N L (within-range N 600 (k .order) .1)) in
+        let few : length (compiled N L) ≤ 400000000 = omega (arith, words-counted N L (k .whole), records-at-most N L (within-range N 600 (k .order) .1)) in
         wider (reply (ran (compiled N L) A B limit c y x)) (length (compiled N L)) few (ran-small (compiled N L) A B limit c y x)

@@ -1,9 +1,10 @@
 -- Compiling and running is solving: what `solve` does, by dense Crout alone.
 use Prim.Native.Nat.{ℕ, _*_, _≤_}
-use mathlib.Core.Path.{_≡_, refl, sym, ap, _∙_}
-use mathlib.Core.Bool.{true}
+use mathlib.Core.Path.{_≡_, refl, sym, ap, ap₂, _∙_}
+use mathlib.Core.Bool.{Bool, true, _&&_}
 use mathlib.Core.List.{List, _++_}
 use native.Mathlib.Omega.{arith}
+use lib.Dec.{eqb}
 use lib.ListN.{length, take, drop, length-append}
 use lib.Seq.{take-at}
 use lib.Ieee.{Float}
@@ -13,42 +14,45 @@ use Rattle.model.specs.Crout.{dense}
 use Rattle.model.specs.Compile.{Compiled, written, refusal, plain, compiles, wordsAfterBy, wordsAfter}
 use Rattle.model.specs.Program.{compiled}
 use Rattle.model.specs.Check.{fine}
-use Rattle.model.specs.Run.{Outcome, solution, stopped, refusedBy, checkValues, ran, Reply, refuses, reply, leaves}
+use Rattle.model.specs.Run.{Outcome, solution, stopped, refusedBy, unsettledAt, checkValues, ran, Reply, refuses, reply, leaves}
 use Rattle.model.specs.Agreement.{Values, Accepted, Seen, early, seen, compressed}
 use Rattle.model.specs.Solve.{solving, told, tellsOf, replied, leftIn}
 use Rattle.model.proofs.Compiles.{compiles-success}
-use Rattle.model.proofs.Runs.{gated, gated-same, gated-map, fine-finite, lengthsRight, right-lengths, ran-fine}
+use Rattle.model.proofs.Runs.{gated, gated-same, gated-map, fine-finite, lengthsRight, right-lengths, doneBy, ran-fine}
 use Rattle.model.proofs.Counts.{words-counted}
-use Rattle.model.proofs.Checked.{program-fine}
+use Rattle.model.proofs.Checked.{slots-some, program-fine}
 use Rattle.model.proofs.Agreement.{runs, agreement}
 
 -- a run leaves in a lent table what its ending, as it is seen, says
 pub leaves-left : (o : Outcome) (t : Table) (vs : List Float) → leaves o t vs ≡ leftIn (seen o) t vs
 unfolding leaves leftIn seen
-leaves-left (solution ts p q g) C vs = refl
-leaves-left (solution ts p q g) Y vs = refl
-leaves-left (solution ts p q g) X vs = refl
+leaves-left (solution ts p q g s) t vs = refl
 leaves-left (stopped r k u n) t vs = refl
 leaves-left (refusedBy r d) t vs = refl
+leaves-left (unsettledAt ts) t vs = refl
 
 -- and tells what that says
 tells-told : (o : Outcome) → tellsOf (reply o) ≡ told (seen o)
 unfolding reply told seen
-tells-told (solution ts p q g) = refl
+tells-told (solution ts p q g s) = refl
 tells-told (stopped r k u n) = refl
 tells-told (refusedBy r d) = refl
+tells-told (unsettledAt ts) = refl
 
 module _ (N : ℕ) (L : Plan) (A B : List Float) (limit : Float) (work words c y x : ℕ) where
+  -- 14's test of a Crout program
+  right : Bool
+  right = eqb (length A) (length L) && (eqb (length B) N && (eqb c (slots N L) && (eqb y N && eqb x N)))
+
   -- solving by the compiler's answer, and then by 14, 15 and 21
   solvingBy : Compiled → Seen
   solvingBy answer = elim answer [
     | refusal r d ↦ early r d
-    | written s p r ↦ gated (early 14 0) early (lengthsRight N (length L) (slots N L) (length A) (length B) c y x)
-        (checkValues A B limit) (compressed N L (dense N L A B limit))
+    | written s p r ↦ gated (early 14 0) early right (checkValues A B limit) (compressed N L (dense N L A B limit))
   ]
 
   solving-is : solving N L A B limit work words c y x ≡ solvingBy (compiles N L work words)
-  unfolding solving solvingBy gated lengthsRight
+  unfolding solving solvingBy gated right
   solving-is = refl
 
   -- where the compiler refuses, that is the ending
@@ -59,12 +63,13 @@ module _ (N : ℕ) (L : Plan) (A B : List Float) (limit : Float) (work words c y
   -- where it writes the program, the run's ending is
   pub solving-runs : (s p r : ℕ) → compiles N L work words ≡ written s p r → Values A → Values B
       → seen (ran (compiled N L) A B limit c y x) ≡ solving N L A B limit work words c y x
-  unfolding compiled seen solvingBy
+  unfolding compiled seen solvingBy right lengthsRight doneBy
   solving-runs s p r e a b =
       let k = compiles-success plain N L work words s p r e in
-      let right = lengthsRight N (length L) (slots N L) (length A) (length B) c y x in
+      let crout = slots-some N L (k .order) (k .whole) in
+      let same : lengthsRight N (length L) (slots N L) (length A) (length B) c y x ≡ right = rw crout in
       let accepts : right ≡ true → checkValues A B limit ≡ fine → Accepted N L A B limit = λ l v.
-      let n = right-lengths N (length L) (slots N L) (length A) (length B) c y x l in
+      let n = right-lengths N (length L) (slots N L) (length A) (length B) c y x (same ∙ l) in
       let f = fine-finite A B limit v in
       record {
         given = record {
@@ -78,10 +83,11 @@ module _ (N : ℕ) (L : Plan) (A B : List Float) (limit : Float) (work words c y
           finiteB = f .finiteB;
           limited = f .limited;
         };
-        pivots = k .pivots;
+        pivots = k .whole;
       } in
-      ap seen (ran-fine (compiled N L) A B limit c y x (program-fine N L (k .order) (k .labels) (k .pivots)))
-      ∙ gated-map seen (refusedBy 14 0) refusedBy right (checkValues A B limit) _
+      ap seen (ran-fine (compiled N L) A B limit c y x (program-fine N L (k .order) (k .labels) (k .whole)))
+      ∙ gated-map seen (refusedBy 14 0) refusedBy _ (checkValues A B limit) _
+      ∙ ap₂ (λ r m. gated (early 14 0) early r (checkValues A B limit) (seen (doneBy (compiled N L) A B limit m))) same crout
       ∙ gated-same (early 14 0) early right (checkValues A B limit) _ _
       (λ l v. sym (ap seen (runs (accepts l v))) ∙ agreement N L A B limit (accepts l v))
       ∙ sym (solving-is ∙ ap solvingBy e)
@@ -133,7 +139,7 @@ module _ (N : ℕ) (L : Plan) (work : ℕ) (words : List ℕ) (s p r : ℕ) (e :
   program-length : length (compiled N L) ≡ 4 * r
   program-length =
       let k = compiles-success plain N L work (length words) s p r e in
-      words-counted N L (k .pivots) ∙ ap (λ n. 4 * n) (sym (k .records-are))
+      words-counted N L (k .whole) ∙ ap (λ n. 4 * n) (sym (k .records-are))
 
   pub program-fits : 4 * r ≤ length (wordsAfter N L work words)
   program-fits = rw (words-left, length-append) (omega (arith, program-length))

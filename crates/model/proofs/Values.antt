@@ -7,7 +7,7 @@ use mathlib.Core.Path.{_≡_, refl, sym, ap, ap₂, subst, _∙_}
 use mathlib.Core.Bool.{Bool, true, false, cond, _&&_}
 use mathlib.Core.List.{List, [], _∷_, _++_, map, List·Memᴰ·head, List·Memᴰ·tail}
 use borrow.Author.Tests.{eqb-true, eqb-false, eq-eqb, ne-eqb}
-use lib.Dec.{eqb, eqb·zero-suc, eqb·suc-zero, eqb·suc-suc}
+use lib.Dec.{eqb, ltb, eqb·zero-suc, eqb·suc-zero, eqb·suc-suc}
 use lib.ListN.{length, getD, length-append}
 use lib.Ieee.{Float}
 use Rattle.model.specs.Lists.{kept}
@@ -15,7 +15,7 @@ use Rattle.model.specs.Label.{label}
 use Rattle.model.specs.Fill.{Plan, position, held, slot}
 use Rattle.model.specs.Arith.{plusZero, Answer, number, overflow, zeroDivisor, clean, isFinite, isZero, isSmall, isLimit, next}
 use Rattle.model.specs.Arith.{product, difference, quotient, vanishes}
-use Rattle.model.specs.Formula.{Table, C, Y, X, Tables, Formula, put, entry, closed, starting, less, lessAll, over, tested, value, vanishedIn}
+use Rattle.model.specs.Formula.{Table, C, Y, X, Tables, Formula, put, putX, entry, closed, starting, less, lessAll, over, tested, value, vanishedIn}
 use Rattle.model.specs.Crout.{inner, lower, forward, upper, backward, nothing}
 use Rattle.model.specs.Run.{notFinite}
 use Rattle.model.specs.Agreement.{Values}
@@ -76,6 +76,14 @@ put-good [] k g h = first-good g h
 put-good (w ∷ vs) zero g h = first-good (record { at = λ k. g .at (suc k) }) h
 put-good (w ∷ vs) (suc k) g h = first-good (put-good vs k (record { at = λ k. g .at (suc k) }) h) (g .at 0)
 
+pub putX-good : (before : ℕ) (vs : List Float) (k : ℕ) {v : Float} → AllGood vs → Good v → AllGood (putX before vs k v)
+unfolding putX
+putX-good before vs k {v} g h = step (ltb before k)
+  where
+    step : (b : Bool) → AllGood (cond b (put vs (k - 1 - before) v) (v ∷ vs))
+    step true = put-good vs (k - 1 - before) g h
+    step false = first-good g h
+
 -- ---- what every answer is, whatever the tables
 
 next-good : (a : Answer) (f : Float → Answer) → ((v : Float) → GoodAnswer (f v)) → GoodAnswer (next a f)
@@ -124,25 +132,25 @@ tested-large limit (number w) v e = step (isSmall limit w) refl e
     step false f e = let same : w ≡ v = cc in rw same at f
 
 -- the value of a formula with a good start is good
-value-good : (A B : List Float) (limit : Float) (t : Tables) (f : Formula) → Good (starting A B t (f .table) (f .start)) → GoodAnswer (value A B limit t f)
+pub value-good : (A B : List Float) (limit : Float) (t : Tables) (f : Formula) → Good (starting A B t (f .table) (f .start)) → GoodAnswer (value A B limit t f)
 unfolding value
 value-good A B limit t f g = tested-good limit (f .pivot) _ (over-good t (f .divisor) _ (lessAll-good t (f .table) _ (f .products) g))
 
 -- ---- products that may be left out
 
 -- a product with a factor +0: it is +0, and not one that vanishes
-record Trivial (a b : Float) : Type 0 where
+pub record Trivial (a b : Float) : Type 0 where
   is-nought : product a b ≡ number plusZero
   uncounted : vanishes a b ≡ false
 
-trivial-left : {b : Float} → Good b → Trivial plusZero b
+pub trivial-left : {b : Float} → Good b → Trivial plusZero b
 trivial-left good = record { is-nought = product-nought-left good; uncounted = vanishes-left _ }
 
 trivial-right : {a : Float} → Good a → Trivial a plusZero
 trivial-right good = record { is-nought = product-nought-right good; uncounted = vanishes-right _ }
 
 -- a pair of dense Crout's, and the reduced formulas' pair for it where it is kept; where it isn't, its product is trivial
-data Alike (t u : Tables) (tb : Table) (p q : ℕ × ℕ) : Bool → Type 0 where
+pub data Alike (t u : Tables) (tb : Table) (p q : ℕ × ℕ) : Bool → Type 0 where
   same : entry u C (q .0) ≡ entry t C (p .0) → entry u tb (q .1) ≡ entry t tb (p .1) → Alike t u tb p q true
   dropped : Trivial (entry t C (p .0)) (entry t tb (p .1)) → Alike t u tb p q false
 
@@ -153,7 +161,7 @@ less-trivial overflow a b g e = refl
 less-trivial zeroDivisor a b g e = refl
 
 -- leaving out trivial products changes no value
-lessAll-same : (t u : Tables) (tb : Table) (f g : ℕ → ℕ × ℕ) (p : ℕ → Bool) (hs : List ℕ)
+pub lessAll-same : (t u : Tables) (tb : Table) (f g : ℕ → ℕ × ℕ) (p : ℕ → Bool) (hs : List ℕ)
     → Each (λ h. Alike t u tb (f h) (g h) (p h)) hs → (a : Answer) → GoodAnswer a
     → lessAll u tb a (map g (kept p hs)) ≡ lessAll t tb a (map f (kept (λ h. true) hs))
 unfolding lessAll kept
@@ -173,7 +181,7 @@ lessAll-same t u tb f g p (h ∷ hs) each a good = step (p h) (each h (List·Mem
     step false (dropped e) rest = rest a good ∙ ap (λ b. lessAll t tb b (map f (kept (λ h. true) hs))) (sym (less-trivial a _ _ good e))
 
 -- and loses none that vanishes
-vanished-same : (t u : Tables) (tb : Table) (f g : ℕ → ℕ × ℕ) (p : ℕ → Bool) (hs : List ℕ) → Each (λ h. Alike t u tb (f h) (g h) (p h)) hs
+pub vanished-same : (t u : Tables) (tb : Table) (f g : ℕ → ℕ × ℕ) (p : ℕ → Bool) (hs : List ℕ) → Each (λ h. Alike t u tb (f h) (g h) (p h)) hs
     → vanishedIn u tb (map g (kept p hs)) ≡ vanishedIn t tb (map f (kept (λ h. true) hs))
 unfolding kept vanishedIn
 vanished-same t u tb f g p [] each = refl
@@ -254,14 +262,14 @@ module _ {N n : ℕ} {L : Plan} {t : Tables} {v : Float} (sound : Sound N L n t)
     count = sound .count;
     good-c = sound .good-c;
     good-y = sound .good-y;
-    good-x = first-good (sound .good-x) good;
+    good-x = putX-good _ _ k (sound .good-x) good;
     unheld = sound .unheld;
     pivot = sound .pivot;
   }
 
 -- ---- the reduced formulas' products beside dense Crout's
 
-over-at : (t : Tables) (d : ℕ) (a : Answer) → 1 ≤ d → over t d a ≡ next a (λ v. quotient v (entry t C d))
+pub over-at : (t : Tables) (d : ℕ) (a : Answer) → 1 ≤ d → over t d a ≡ next a (λ v. quotient v (entry t C d))
 unfolding over
 over-at t d a h = rw (ne-eqb d 0 (λ e. omega arith))
 

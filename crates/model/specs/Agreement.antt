@@ -1,6 +1,6 @@
--- Demand 3 as a statement: what the run of a compiled program is beside dense Crout. Document 01, "Set beside dense Crout"; document 02, A.1, A.5
--- and A.11. Definitions only.
-use Prim.Native.Nat.{ℕ, _+_}
+-- Demand 3 as a statement: what the run of a compiled program is beside dense Crout, and that of a sweep program beside the dense sweep. Document 01, "Set
+-- beside dense Crout"; document 02, A.1, A.5, A.7 and A.11. Definitions only.
+use Prim.Native.Nat.{ℕ, _+_, _-_, _*_}
 use mathlib.Core.Bool.{true}
 use mathlib.Core.Path.{_≡_}
 use mathlib.Core.List.{List, [], map}
@@ -14,9 +14,10 @@ use Rattle.model.specs.Formula.{Table, C, Y, X, Tables, entry, Ended, so
 use Rattle.model.specs.Crout.{dense}
 use Rattle.model.specs.Program.{compiledRecords, compiled}
 use Rattle.model.specs.Compact.{compactSlots, compactRecords, compacted, openings, closedInto, mostAlive}
+use Rattle.model.specs.Sweep.{Settled, settles, refusedAt, unsettles, bare, compiledSweep, denseSweep}
 use Rattle.model.specs.Compile.{judged, good}
 use Rattle.model.specs.Check.{check, fine}
-use Rattle.model.specs.Run.{Outcome, solution, stopped, refusedBy, notFinite, ran}
+use Rattle.model.specs.Run.{Outcome, solution, stopped, refusedBy, unsettledAt, notFinite, ran}
 
 -- every entry is a value of binary64, as those of an f64 slice are; past the end stands nan, which is one
 abbrev pub Values : List Float → Type 0
@@ -41,18 +42,21 @@ pub record Accepted (N : ℕ) (L : Plan) (A B : List Float) (limit : Float) : Ty
 
 -- what is compared of two endings
 pub data Seen : Type 0 where
-  -- the tables, the products, the quotients and the products that vanished
-  whole : Tables → ℕ → ℕ → ℕ → Seen
+  -- the tables, the products, the quotients, the products that vanished, and the sweeps, 0 for Crout
+  whole : Tables → ℕ → ℕ → ℕ → ℕ → Seen
   -- 16 or 17, and the table and number of the target
   ended : ℕ → Table → ℕ → Seen
   -- a refusal before the first record
   early : ℕ → ℕ → Seen
+  -- 27, and the tables then
+  late : Tables → Seen
 
 -- a run's ending, but for the record of its refusal
 unfoldable pub seen : Outcome → Seen
-seen (solution t products quotients vanished) = whole t products quotients vanished
+seen (solution t products quotients vanished sweeps) = whole t products quotients vanished sweeps
 seen (stopped r index t k) = ended r t k
 seen (refusedBy r d) = early r d
+seen (unsettledAt t) = late t
 
 -- dense Crout's tables with C compressed: C(J) is the entry of the J-th held place
 unfoldable pub packed : ℕ → Plan → Tables → Tables
@@ -62,7 +66,7 @@ packed N L t = record { order = t .order; c = map (λ p. entry t C (label N (p .
 -- quotient for each y and each held place above the diagonal; of the products that vanish, "program and dense method agree on the number" (A.5); a refusal
 -- in C by the slot of its place.
 unfoldable pub compressed : ℕ → Plan → Ended → Seen
-compressed N L (solved t vanished) = whole (packed N L t) (productCount N L) (N + above N L) vanished
+compressed N L (solved t vanished) = whole (packed N L t) (productCount N L) (N + above N L) vanished 0
 compressed N L (refused r C k) = ended r C (slot N L (place N k .0) (place N k .1))
 compressed N L (refused r Y k) = ended r Y k
 compressed N L (refused r X k) = ended r X k
@@ -93,9 +97,10 @@ numberIn Y k = k
 numberIn X k = k
 
 unfoldable pub common : Outcome → Common
-common (solution t products quotients vanished) = solves (t .y) (t .x) products quotients vanished
+common (solution t products quotients vanished sweeps) = solves (t .y) (t .x) products quotients vanished
 common (stopped r index t k) = stops r index t (numberIn t k)
 common (refusedBy r d) = other
+common (unsettledAt t) = other
 
 abbrev pub CompactAgrees : ℕ → Plan → List Float → List Float → Float → Type 0
 CompactAgrees N L A B limit = Accepted N L A B limit
@@ -104,16 +109,18 @@ CompactAgrees N L A B limit = Accepted N L A B limit
 -- "C holds what each slot closed last": the j-th slot opened closes the value of plain slot j.
 abbrev pub CompactC : ℕ → Plan → List Float → List Float → Float → Type 0
 CompactC N L A B limit = Accepted N L A B limit
-    → (t u : Tables) (p q g p′ q′ g′ : ℕ)
-    → ran (compiled N L) A B limit (slots N L) N N ≡ solution t p q g
-    → ran (compacted N L) A B limit (compactSlots N L) N N ≡ solution u p′ q′ g′
+    → (t u : Tables) (p q g k p′ q′ g′ k′ : ℕ)
+    → ran (compiled N L) A B limit (slots N L) N N ≡ solution t p q g k
+    → ran (compacted N L) A B limit (compactSlots N L) N N ≡ solution u p′ q′ g′ k′
     → u .c ≡ closedInto [] (openings (compactRecords N L)) (t .c)
 
 -- what is compared of two endings, but for C and a refusal's number in table 1
 unfoldable pub besides : Seen → Seen
-besides (whole t products quotients vanished) = whole (record { order = t .order; c = []; y = t .y; x = t .x }) products quotients vanished
+besides (whole t products quotients vanished sweeps) =
+    whole (record { order = t .order; c = []; y = t .y; x = t .x }) products quotients vanished sweeps
 besides (ended r t k) = ended r t (numberIn t k)
 besides (early r d) = early r d
+besides (late t) = late t
 
 -- in these the compact program's run is dense Crout too
 abbrev pub CompactDense : ℕ → Plan → List Float → List Float → Float → Type 0
@@ -126,3 +133,19 @@ CompactFine N L = isOrder N ≡ true → judged N 0 1 L ≡ good → missing N L
 -- "s must equal the largest number alive at any record"
 abbrev pub CompactLeast : ℕ → Plan → Type 0
 CompactLeast N L = isOrder N ≡ true → judged N 0 1 L ≡ good → missing N L ≡ 0 → compactSlots N L ≡ mostAlive 0 0 (compiledRecords N L)
+
+-- A.7. The dense sweep's ending as the run has to show it: X as it is, n - N products and N quotients for each sweep; a refusal by its row.
+abbrev pub onX : ℕ → List Float → Tables
+onX N x = record { order = N; c = []; y = []; x = x }
+
+unfoldable pub sweptAs : ℕ → Plan → Settled → Seen
+sweptAs N L (settles x vanished sweeps) = whole (onX N x) (sweeps * (length L - N)) (sweeps * N) vanished sweeps
+sweptAs N L (refusedAt r k) = ended r X k
+sweptAs N L (unsettles x) = late (onX N x)
+
+abbrev pub SweepAgrees : ℕ → Plan → List Float → List Float → Float → Type 0
+SweepAgrees N L A B limit = Given N L A B limit → bare N L ≡ 0
+    → seen (ran (compiledSweep N L) A B limit 0 0 N) ≡ sweptAs N L (denseSweep N L A B limit)
+
+abbrev pub SweepFine : ℕ → Plan → Type 0
+SweepFine N L = isOrder N ≡ true → judged N 0 1 L ≡ good → bare N L ≡ 0 → check (compiledSweep N L) ≡ fine

@@ -1,4 +1,4 @@
--- Document 01's "Known plans and values" and its listing, and values for document 02's A.1, A.5 and A.11, as one theorem about the definitions.
+-- Document 01's "Known plans and values" and its listing, and values for document 02's A.1, A.5, A.7 and A.11, as one theorem about the definitions.
 use Prim.Native.Nat.{ℕ, _*_}
 use mathlib.Core.Bool.{true, false}
 use mathlib.Core.Path.{_≡_, refl}
@@ -11,13 +11,16 @@ use Rattle.model.specs.Label.{label, column, row, places, place}
 use Rattle.model.specs.Fill.{Plan, positionFrom, position, heldWithin, held, heldPlaces, slots, slot}
 use Rattle.model.specs.Fill.{missingFrom, missing, pairsAt, below, above, productCount, recordCount}
 use Rattle.model.specs.Arith.{plusZero, clean, settled, isZero, isFinite, product, difference, quotient, vanishes, isSmall, isLimit, next}
-use Rattle.model.specs.Formula.{C, Y, Tables, solved, refused, put, entry, closed, starting, less, lessAll, over, tested, value, vanishedIn, worked}
+use Rattle.model.specs.Formula.{C, Y, X, Tables, solved, refused, put, putX, entry, closed, starting}
+use Rattle.model.specs.Formula.{less, lessAll, over, tested, value, vanishedIn, worked}
 use Rattle.model.specs.Crout.{inner, lower, forward, upper, backward, batch, formulas, denseFormulas, reducedFormulas, dense}
 use Rattle.model.specs.Program.{Record, rec, opening, recordsOf, chained, compiledRecords, compiled}
 use Rattle.model.specs.Compact.{needed, afterRecord, unnamed, renamed, compacting, compactSlots, compactRecords, compacted, openings}
-use Rattle.model.specs.Compile.{written, refusal, judged, compact, orderly, admits, compilesBy, compiles, slotNumbers, workLeft, workAfterBy}
-use Rattle.model.specs.Check.{chainAfter, chain, kindOf, formed, inOrder, inTurn, complete, checkLinks, check}
-use Rattle.model.specs.Run.{Outcome, solution, stopped, refusedBy, step, follow, followed, notFinite, checkValues, ran}
+use Rattle.model.specs.Sweep.{rowFormula, rowFormulas, plannedRows, denseRows, sweepRecord, sweepRecords, compiledSweep, bareFrom, bare}
+use Rattle.model.specs.Sweep.{positionNumbers, movesMore, moved, sweeping, fullTable, settles, refusedAt, unsettles, denseOnce, denseSweep}
+use Rattle.model.specs.Compile.{written, refusal, judged, compact, sweep, orderly, admits, compilesBy, compiles, slotNumbers, workLeft, workAfterBy}
+use Rattle.model.specs.Check.{chainAfter, chain, kindOf, belongs, formed, inOrder, inTurn, inRow, allowed, complete, checkLinks, check}
+use Rattle.model.specs.Run.{Outcome, solution, stopped, refusedBy, unsettledAt, step, follow, followed, notFinite, checkValues, sweptOver, ran}
 
 abbrev int : ℕ → Float
 int n = ofInt binary64 (pos n)
@@ -105,6 +108,13 @@ ran₁ A B limit = ran (compiled 1 one) A B limit 1 1 1
 abbrev ranDiagonal : List Float → List Float → Outcome
 ranDiagonal A B = ran (compacted 2 diagonal₂) A B plusZero 1 2 2
 
+-- the compiled sweep of order 2, and the tables that hold its X alone
+abbrev swept₂ : List Float → List Float → Float → Outcome
+swept₂ A B limit = ran (compiledSweep 2 full₂) A B limit 0 0 2
+
+abbrev onX₂ : List Float → Tables
+onX₂ x = record { order = 2; c = []; y = []; x = x }
+
 -- the coefficients of T3, and those of G1, G2 and G3
 abbrev nearlyEqual : List Float
 nearlyEqual = int 1 ∷ int 1 ∷ int 1 ∷ aboveOne ∷ []
@@ -114,6 +124,29 @@ weak v = plusOne ∷ v ∷ v ∷ plusOne ∷ []
 
 abbrev strong : List Float
 strong = e₃₀₀ ∷ plusZero ∷ neg e₋₃₀₀ ∷ plusOne ∷ []
+
+-- the coefficients of S3, S4 and S5, and the X of S3
+abbrev settling : List Float
+settling = ints (4 ∷ 2 ∷ 1 ∷ 4 ∷ [])
+
+abbrev settledX : List Float
+settledX = fin false 9 (negsuc 2) ∷ fin false 27 (negsuc 3) ∷ []
+
+abbrev drifting : List Float
+drifting = int 1 ∷ minusOne ∷ minusOne ∷ int 1 ∷ []
+
+abbrev bottomless : List Float
+bottomless = int 1 ∷ int 1 ∷ int 1 ∷ neg plusZero ∷ []
+
+-- S6: a plan of order 3 where x(1) jumps from 1.5 · 10^308 to its negative, and 10^308
+abbrev plan₃ : Plan
+plan₃ = 1 ∷ 4 ∷ 5 ∷ 6 ∷ 9 ∷ []
+
+abbrev large : Float
+large = fin false 469726959377103 (pos 975)
+
+abbrev e₃₀₈ : Float
+e₃₀₈ = fin false 156575653125701 (pos 976)
 
 -- the tables of V1 and of V4, of T2, T3 and T4, and of G1, G2 and G3
 abbrev tables₁ : Tables
@@ -159,38 +192,69 @@ pub record Known : Type 0 where
   p7 : (compiles 0 [] 0 0 ≡ refusal 1 0) × (compiles 601 [] 361201 0 ≡ refusal 1 0)
   p8 : compiles 6 plan₈ 36 364 ≡ written 18 19 91
   v1 : (dense 2 full₂ (ints (2 ∷ 4 ∷ 1 ∷ 4 ∷ [])) (ints (4 ∷ 12 ∷ [])) plusZero ≡ solved tables₁ 0)
-      × (ran₂ (ints (2 ∷ 4 ∷ 1 ∷ 4 ∷ [])) (ints (4 ∷ 12 ∷ [])) plusZero ≡ solution tables₁ 3 3 0)
+      × (ran₂ (ints (2 ∷ 4 ∷ 1 ∷ 4 ∷ [])) (ints (4 ∷ 12 ∷ [])) plusZero ≡ solution tables₁ 3 3 0 0)
   v2 : (dense 2 full₂ (ints (1 ∷ 1 ∷ 1 ∷ 1 ∷ [])) (ints (4 ∷ 12 ∷ [])) plusZero ≡ refused 17 C 4)
       × (ran₂ (ints (1 ∷ 1 ∷ 1 ∷ 1 ∷ [])) (ints (4 ∷ 12 ∷ [])) plusZero ≡ stopped 17 13 C 4)
   v3 : (dense 1 one (tiny ∷ []) (huge ∷ []) plusZero ≡ refused 16 Y 1) × (ran₁ (tiny ∷ []) (huge ∷ []) plusZero ≡ stopped 16 4 Y 1)
   v4 : (dense 1 one (minusOne ∷ []) (plusZero ∷ []) plusZero ≡ solved tables₄ 0)
-      × (ran₁ (minusOne ∷ []) (plusZero ∷ []) plusZero ≡ solution tables₄ 0 1 0)
+      × (ran₁ (minusOne ∷ []) (plusZero ∷ []) plusZero ≡ solution tables₄ 0 1 0 0)
   -- A.1: a pivot of exactly -t, one just above t, and a second pivot near 0, also without a limit; a limit -0, one that is negative, and one with a
   -- value that is not finite
   t1 : (dense 1 one (neg half ∷ []) (ints (1 ∷ [])) half ≡ refused 17 C 1) × (ran₁ (neg half ∷ []) (ints (1 ∷ [])) half ≡ stopped 17 2 C 1)
-  t2 : (dense 1 one (half ∷ []) (ints (1 ∷ [])) belowHalf ≡ solved halves 0) × (ran₁ (half ∷ []) (ints (1 ∷ [])) belowHalf ≡ solution halves 0 1 0)
+  t2 : (dense 1 one (half ∷ []) (ints (1 ∷ [])) belowHalf ≡ solved halves 0) × (ran₁ (half ∷ []) (ints (1 ∷ [])) belowHalf ≡ solution halves 0 1 0 0)
   t3 : (dense 2 full₂ nearlyEqual (ints (4 ∷ 12 ∷ [])) nano ≡ refused 17 C 4)
       × (ran₂ nearlyEqual (ints (4 ∷ 12 ∷ [])) nano ≡ stopped 17 13 C 4)
-      × (ran₂ nearlyEqual (ints (4 ∷ 12 ∷ [])) plusZero ≡ solution nearly 3 3 0)
+      × (ran₂ nearlyEqual (ints (4 ∷ 12 ∷ [])) plusZero ≡ solution nearly 3 3 0 0)
   t4 : (dense 1 one (smallest ∷ []) (plusZero ∷ []) (neg plusZero) ≡ solved noughts 0)
-      × (ran₁ (smallest ∷ []) (plusZero ∷ []) (neg plusZero) ≡ solution noughts 0 1 0)
+      × (ran₁ (smallest ∷ []) (plusZero ∷ []) (neg plusZero) ≡ solution noughts 0 1 0 0)
   t5 : ran₁ (ints (1 ∷ [])) (ints (1 ∷ [])) (neg smallest) ≡ refusedBy 21 0
   t6 : ran₁ (ints (1 ∷ [])) (inf false ∷ []) minusOne ≡ refusedBy 15 1
   -- A.5: one product that vanishes; one in each of kinds 4, 5 and 6; and none where two quotients round to zero and the products have a factor that is zero
   g1 : (dense 2 full₂ (weak e₋₂₀₀) (plusOne ∷ plusOne ∷ []) plusZero ≡ solved ones 1)
-      × (ran₂ (weak e₋₂₀₀) (plusOne ∷ plusOne ∷ []) plusZero ≡ solution ones 3 3 1)
-  g2 : (dense 2 full₂ (weak tiny) (tiny ∷ tiny ∷ []) plusZero ≡ solved cut 3) × (ran₂ (weak tiny) (tiny ∷ tiny ∷ []) plusZero ≡ solution cut 3 3 3)
-  g3 : (dense 2 full₂ strong (e₋₃₀₀ ∷ plusOne ∷ []) plusZero ≡ solved flat 0) × (ran₂ strong (e₋₃₀₀ ∷ plusOne ∷ []) plusZero ≡ solution flat 3 3 0)
+      × (ran₂ (weak e₋₂₀₀) (plusOne ∷ plusOne ∷ []) plusZero ≡ solution ones 3 3 1 0)
+  g2 : (dense 2 full₂ (weak tiny) (tiny ∷ tiny ∷ []) plusZero ≡ solved cut 3) × (ran₂ (weak tiny) (tiny ∷ tiny ∷ []) plusZero ≡ solution cut 3 3 3 0)
+  g3 : (dense 2 full₂ strong (e₋₃₀₀ ∷ plusOne ∷ []) plusZero ≡ solved flat 0) × (ran₂ strong (e₋₃₀₀ ∷ plusOne ∷ []) plusZero ≡ solution flat 3 3 0 0)
   -- A.11: the answer and the work slice of the second compiler, also after 5; the run of its program, and a refusal; the slots opened, also where one
   -- record frees two slots, or a closing one; and how many slots there are
   c1 : compilesBy compact 2 diagonal₂ 16 60 ≡ written 1 0 15
   c2 : (workAfterBy compact 2 diagonal₂ (replicate 17 9) 60 ≡ 1 ∷ 0 ∷ 0 ∷ 2 ∷ replicate 12 0 ++ (9 ∷ []))
       × (workAfterBy compact 2 (2 ∷ 3 ∷ []) (replicate 17 9) 60 ≡ replicate 16 0 ++ (9 ∷ []))
-  c3 : ranDiagonal (ints (2 ∷ 4 ∷ [])) (ints (2 ∷ 12 ∷ [])) ≡ solution onlyLast 0 2 0
+  c3 : ranDiagonal (ints (2 ∷ 4 ∷ [])) (ints (2 ∷ 12 ∷ [])) ≡ solution onlyLast 0 2 0 0
   c4 : ranDiagonal (ints (2 ∷ 0 ∷ [])) (ints (2 ∷ 12 ∷ [])) ≡ stopped 17 7 C 1
   c5 : (openings (compactRecords 2 full₂) ≡ 1 ∷ 2 ∷ 3 ∷ 1 ∷ []) × (openings (compactRecords 4 plan₄) ≡ 1 ∷ 2 ∷ 3 ∷ 1 ∷ 4 ∷ 1 ∷ 4 ∷ 1 ∷ [])
   c6 : openings (renamed unnamed ties .records) ≡ 1 ∷ 2 ∷ 3 ∷ 2 ∷ 2 ∷ []
   c7 : (compactSlots 6 plan₈ ≡ 10) × (compactSlots 3 (full 3) ≡ 7) × (compactSlots 4 (full 4) ≡ 12) × (compactSlots 5 (full 5) ≡ 18)
+  -- A.7: the answer, the words and the work slice of the sweep's compiler, also after 26; a run and the dense sweep that settle, that do not and that are
+  -- refused; a move that overflows, and one of exactly the tolerance
+  s1 : compilesBy sweep 2 full₂ 4 36 ≡ written 0 2 9
+  s2 : (compiledSweep 2 full₂
+      ≡ 2 ∷ 4 ∷ 0 ∷ 1
+      ∷ 10 ∷ 1 ∷ 0 ∷ 2
+      ∷ 11 ∷ 3 ∷ 2 ∷ 3
+      ∷ 12 ∷ 1 ∷ 0 ∷ 4
+      ∷ 8 ∷ 0 ∷ 0 ∷ 5
+      ∷ 10 ∷ 2 ∷ 0 ∷ 6
+      ∷ 11 ∷ 2 ∷ 1 ∷ 7
+      ∷ 12 ∷ 4 ∷ 0 ∷ 8
+      ∷ 8 ∷ 0 ∷ 0 ∷ 0
+      ∷ [])
+      × (map (λ r. r .q) (sweepRecords 3 (full 3))
+      ≡ 0 ∷ 2 ∷ 3 ∷ 0 ∷ 0
+      ∷ 0 ∷ 1 ∷ 3 ∷ 0 ∷ 0
+      ∷ 0 ∷ 1 ∷ 2 ∷ 0 ∷ 0
+      ∷ [])
+  s3 : (swept₂ settling (ints (6 ∷ 9 ∷ [])) half ≡ solution (onX₂ settledX) 4 4 0 2)
+      × (denseSweep 2 full₂ settling (ints (6 ∷ 9 ∷ [])) half ≡ settles settledX 0 2)
+  s4 : (swept₂ drifting (ints (1 ∷ 1 ∷ [])) plusZero ≡ unsettledAt (onX₂ (ints (599 ∷ 600 ∷ []))))
+      × (denseSweep 2 full₂ drifting (ints (1 ∷ 1 ∷ [])) plusZero ≡ unsettles (ints (599 ∷ 600 ∷ [])))
+  s5 : (swept₂ bottomless (ints (1 ∷ 0 ∷ [])) plusZero ≡ stopped 17 7 X 2)
+      × (denseSweep 2 full₂ bottomless (ints (1 ∷ 0 ∷ [])) plusZero ≡ refusedAt 17 2)
+  s6 : ran (compiledSweep 3 plan₃) (ints (1 ∷ 1 ∷ 1 ∷ 1 ∷ 1 ∷ [])) (large ∷ large ∷ large ∷ []) e₃₀₈ 0 0 3
+      ≡ solution (record { order = 3; c = []; y = []; x = neg large ∷ large ∷ large ∷ [] }) 6 9 0 3
+  s7 : swept₂ settling (ints (6 ∷ 9 ∷ [])) (fin false 3 (negsuc 2)) ≡ solution (onX₂ settledX) 4 4 0 2
+  s8 : (compilesBy sweep 2 (1 ∷ 2 ∷ 3 ∷ []) 4 36 ≡ refusal 26 2)
+      × (workAfterBy sweep 2 (1 ∷ 2 ∷ 3 ∷ []) (replicate 5 9) 36 ≡ 0 ∷ 0 ∷ 0 ∷ 0 ∷ 9 ∷ [])
+      × (workAfterBy sweep 2 (1 ∷ 3 ∷ 4 ∷ []) (replicate 5 9) 36 ≡ 1 ∷ 0 ∷ 2 ∷ 3 ∷ 9 ∷ [])
   -- the listing for input `1 1`, a record a line
   listing : compiled 1 one
       ≡ 1 ∷ 1 ∷ 1 ∷ 1
@@ -207,11 +271,13 @@ pub known : Known
 unfolding rising falling joined kept total some count label column row places place
     positionFrom position heldWithin held heldPlaces slots slot missingFrom missing pairsAt below above productCount recordCount
     clean settled isZero isFinite product difference quotient vanishes isSmall isLimit next
-    put entry closed starting less lessAll over tested value vanishedIn worked
+    put putX entry closed starting less lessAll over tested value vanishedIn worked
     inner lower forward upper backward batch formulas denseFormulas reducedFormulas dense
     opening recordsOf chained compiledRecords compiled needed afterRecord renamed compacting compactSlots compactRecords compacted
+    rowFormula rowFormulas plannedRows denseRows sweepRecord sweepRecords compiledSweep bareFrom bare positionNumbers
+    movesMore moved sweeping fullTable denseOnce denseSweep
     judged orderly admits compilesBy slotNumbers workLeft workAfterBy
-    chainAfter chain kindOf formed inOrder inTurn complete checkLinks check step follow followed notFinite checkValues ran
+    chainAfter chain kindOf belongs formed inOrder inTurn inRow allowed complete checkLinks check step follow followed notFinite checkValues sweptOver ran
     mul sub div neg lt eq le ofInt
 known = record {
   p1 = (refl, refl, refl, refl, refl, refl);
@@ -242,5 +308,13 @@ known = record {
   c5 = (refl, refl);
   c6 = refl;
   c7 = (refl, refl, refl, refl);
+  s1 = refl;
+  s2 = (refl, refl);
+  s3 = (refl, refl);
+  s4 = (refl, refl);
+  s5 = (refl, refl);
+  s6 = refl;
+  s7 = refl;
+  s8 = (refl, refl, refl);
   listing = refl;
 }

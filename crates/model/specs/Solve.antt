@@ -8,14 +8,14 @@ use lib.ListN.{length, replicate}
 use lib.Ieee.{Float}
 use Rattle.model.specs.Arith.{plusZero}
 use Rattle.model.specs.Fill.{Plan, slots}
-use Rattle.model.specs.Formula.{Table, C, Y, X, numberOf}
+use Rattle.model.specs.Formula.{Table, numberOf}
 use Rattle.model.specs.Crout.{dense}
 use Rattle.model.specs.Program.{compiled}
 use Rattle.model.specs.Compile.{compiles, written, refusal}
 use Rattle.model.specs.Check as Check
 use Rattle.model.specs.Check.{fine}
-use Rattle.model.specs.Run.{checkValues, ran, Reply, solves, stops, refuses, reply}
-use Rattle.model.specs.Agreement.{Seen, whole, ended, early, compressed}
+use Rattle.model.specs.Run.{entriesOf, checkValues, ran, Reply, solves, stops, refuses, reply}
+use Rattle.model.specs.Agreement.{Seen, whole, ended, early, late, compressed}
 
 -- How solving ends, with slices of work numbers, words, C, Y and X of these lengths: the compiler's checks, the lengths (14), the values (15),
 -- the limit (21), then dense Crout with C compressed.
@@ -40,13 +40,14 @@ pub data Told : Type 0 where
   refused : ℕ → ℕ → Told
 
 unfoldable pub told : Seen → Told
-told (whole t products quotients vanished) = solved products quotients vanished
+told (whole t products quotients vanished sweeps) = solved products quotients vanished
 told (ended r t k) = stopped r (numberOf t) k
 told (early r d) = refused r d
+told (late t) = refused 27 0
 
 -- a reply without its record
 abbrev pub tellsOf : Reply → Told
-tellsOf (solves products quotients vanished) = solved products quotients vanished
+tellsOf (solves products quotients vanished sweeps) = solved products quotients vanished
 tellsOf (stops r index t k) = stopped r t k
 tellsOf (refuses r d) = refused r d
 
@@ -59,8 +60,7 @@ replied N L A B limit work words c y x = elim (compiles N L work words) [
 
 -- what it leaves in the lent table t, which held vs
 unfoldable pub leftIn : Seen → Table → List Float → List Float
-leftIn (whole t products quotients vanished) C vs = t .c
-leftIn (whole t products quotients vanished) Y vs = t .y
-leftIn (whole t products quotients vanished) X vs = t .x
+leftIn (whole t products quotients vanished sweeps) u vs = entriesOf t u
+leftIn (late t) u vs = entriesOf t u
 leftIn (ended r u k) t vs = replicate (length vs) plusZero
 leftIn (early r d) t vs = vs

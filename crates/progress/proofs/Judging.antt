@@ -1,6 +1,7 @@
 -- A record's judgement by its kind: the tests on numbers that a kind makes are the model's.
 use Prim.Native.Nat.{ℕ, zero, suc, _+_, _-_, _≤_, _<_}
 use native.Mathlib.Omega.{arith}
+use mathlib.Core.Logic.{_⊎_, ⊎-elim}
 use mathlib.Core.Path.{_≡_, refl, sym, ap, subst, _∙_}
 use mathlib.Core.Bool.{Bool, true, false, cond, not, _&&_, and-comm, and-false}
 use lib.Dec.{leb, ltb, eqb, leb·suc-suc}
@@ -9,7 +10,7 @@ use Rattle.model.specs.Label.{within}
 use Rattle.model.specs.Formula.{Table, C, Y, X, numberOf}
 use Rattle.model.specs.Check as Check
 use Rattle.model.specs.Check.{Open, idle, busy, isIdle, Kind, opens, subtracts, divides, closes, closesPivot, none, kindOf}
-use Rattle.model.specs.Check.{formed, inOrder, inTurn, counted, onward}
+use Rattle.model.specs.Check.{isSweep, belongs, formed, inOrder, inTurn, inRow, allowed, counted, onward}
 use Rattle.progress.specs.declared.Head.{Head}
 use Rattle.progress.specs.declared.Target.{Target}
 use Rattle.progress.specs.declared.Target.the-variants as Target
@@ -75,10 +76,22 @@ onward-total closes p q g = counted-total (g .target) g
 onward-total closesPivot p q g = counted-total (g .target) g
 onward-total none p q g = omega arith
 
+-- what a record's kind is, and that a test lets it pass
+pub record Known (test : ℕ → Bool) (kind : ℕ) (k : Kind) : Type 0 where
+  pub is : kindOf kind ≡ k
+  pub passes : test kind ≡ true
+
+pub known : {test : ℕ → Bool} {kind m : ℕ} → kind ≡ m → test m ≡ true → Known test kind (kindOf m)
+known {test} e t = record { is = ap kindOf e; passes = ap test e ∙ t }
+
+-- 10's test with s above 0; with s = 0 it is `belongs 0`
+abbrev pub isCrout : ℕ → Bool
+isCrout k = within k 9
+
 -- kinds 4 to 6 subtract into the table whose number is three less
 pub record Subtracting (kind : ℕ) : Type 0 where
   pub table : Table
-  pub kind-is : kindOf kind ≡ subtracts table
+  pub kind-is : Known isCrout kind (subtracts table)
   pub number-is : kind - 3 ≡ numberOf table
 
 pub subtracting : (kind : ℕ) → 4 ≤ kind → kind ≤ 6 → Subtracting kind
@@ -86,28 +99,58 @@ unfolding kindOf
 subtracting kind low high = subst Subtracting (omega arith) (step (kind - 4) (omega arith))
   where
     step : (d : ℕ) → d < 3 → Subtracting (4 + d)
-    step zero h = record { table = C; kind-is = refl; number-is = refl }
-    step (suc zero) h = record { table = Y; kind-is = refl; number-is = refl }
-    step (suc (suc zero)) h = record { table = X; kind-is = refl; number-is = refl }
+    step zero h = record { table = C; kind-is = known refl refl; number-is = refl }
+    step (suc zero) h = record { table = Y; kind-is = known refl refl; number-is = refl }
+    step (suc (suc zero)) h = record { table = X; kind-is = known refl refl; number-is = refl }
     step (suc (suc (suc d))) h = absurd (omega arith)
 
 -- a number that is at least j, and not j, is above it
 pub above : (k j : ℕ) → j ≤ k → (k ≡ j → ⊥) → suc j ≤ k
 above k j low other = omega arith
 
--- 10 of a number that is no kind
-pub no-kind : (kind : ℕ) → 10 ≤ kind → kindOf kind ≡ none
-unfolding kindOf
-no-kind kind high =
-    let other : (k : ℕ) → k < 10 → eqb kind k ≡ false = λ k low. ne-eqb kind k (λ e. omega arith) in
-    rw (other 1 (omega arith), other 2 (omega arith), other 3 (omega arith), other 4 (omega arith), other 5 (omega arith), other 6 (omega arith))
-    (rw (other 7 (omega arith), other 8 (omega arith), other 9 (omega arith)))
+-- with s above 0 a program is no sweep
+pub no-sweep : (s : ℕ) → 0 < s → isSweep s ≡ false
+no-sweep s some = ne-eqb s 0 (λ e. omega arith)
 
--- one kind's tests give the refusal of a record of that kind
-module _ (h : Head) (g : Progress) (kind p q : ℕ) (k : Kind) (is : kindOf kind ≡ k) where
-  pub arm : {f o t : Bool} → f ≡ formed k p q → o ≡ inOrder k (progressOf g .target) → t ≡ inTurn (h .order) (h .coefficients) (h .slots) k p q (progressOf g)
-      → firstOf f o t ≡ refusalOf h g kind p q
-  arm ef eo et = cc
+-- the kinds that 10 refuses, with s above 0 and with s = 0
+pub not-crout : (s kind : ℕ) → 0 < s → isCrout kind ≡ false → belongs s kind ≡ false
+unfolding belongs
+not-crout s kind some other = rw (no-sweep s some) other
+
+pub not-in-row : (s kind : ℕ) → s ≡ 0 → (kind ≡ 8 → ⊥) → (kind ≡ 10 → ⊥) → (kind ≡ 11 → ⊥) → (kind ≡ 12 → ⊥) → belongs s kind ≡ false
+unfolding belongs
+not-in-row s kind sweep n8 n10 n11 n12 = rw (sweep, ne-eqb kind 8 n8) (step (leb 10 kind) (leb kind 12) refl refl)
+  where
+    step : (low high : Bool) → leb 10 kind ≡ low → leb kind 12 ≡ high → low && high ≡ false
+    step false high el eh = refl
+    step true false el eh = refl
+    step true true el eh = absurd (omega (arith, leb-true 10 kind el, leb-true kind 12 eh))
+
+module _ (h : Head) (g : Progress) (kind p q : ℕ) where
+  pub no-kind : belongs (h .slots) kind ≡ false → 10 ≡ refusalOf h g kind p q
+  unfolding firstOf
+  no-kind other = rw other
+
+  -- one kind's tests give the refusal of a record of that kind
+  arm : (k : Kind) → kindOf kind ≡ k → belongs (h .slots) kind ≡ true → {f o t : Bool} → f ≡ formed k p q → o ≡ inOrder k (progressOf g .target)
+      → t ≡ allowed (h .order) (h .coefficients) (h .slots) k p q (progressOf g) → firstOf f o t ≡ refusalOf h g kind p q
+  arm k is own ten eleven twelve = rw (own, is, ten, eleven, twelve)
+
+  pub crout-arm : 0 < h .slots → {k : Kind} → Known isCrout kind k → {f o t : Bool} → f ≡ formed k p q → o ≡ inOrder k (progressOf g .target)
+      → t ≡ inTurn (h .order) (h .coefficients) (h .slots) k p q (progressOf g) → firstOf f o t ≡ refusalOf h g kind p q
+  unfolding belongs allowed
+  crout-arm some {k} e ten eleven twelve =
+      arm k (e .is) (rw (no-sweep (h .slots) some) (e .passes)) ten eleven (rw (no-sweep (h .slots) some) twelve)
+
+  pub row-arm : h .slots ≡ 0 → {k : Kind} → Known (belongs 0) kind k → {f o t : Bool} → f ≡ formed k p q → o ≡ inOrder k (progressOf g .target)
+      → t ≡ inRow (h .order) (h .coefficients) k p q (progressOf g) → firstOf f o t ≡ refusalOf h g kind p q
+  unfolding allowed
+  row-arm sweep {k} e ten eleven twelve = arm k (e .is) (rw sweep (e .passes)) ten eleven (rw sweep twelve)
+
+-- kinds 3 and 10 open an entry of X
+pub opens-x : (kind : ℕ) → (kind ≡ 3) ⊎ (kind ≡ 10) → opens X ≡ kindOf kind
+unfolding kindOf
+opens-x kind = ⊎-elim (λ e. ap kindOf (sym e)) (λ e. ap kindOf (sym e))
 
 -- kinds 8 and 9 close what is open
 pub onward-closes : (kind p q : ℕ) (g : Check.Progress) → 8 ≤ kind → kind < 10 → counted (g .target) g ≡ onward (kindOf kind) p q g
@@ -122,19 +165,17 @@ onward-closes kind p q g low high =
     step (suc (suc d)) h = absurd (omega arith)
 
 -- kinds that neither open nor close change nothing
-pub onward-same : (kind p q : ℕ) (g : Check.Progress) → (kind ≡ 1 → ⊥) → (kind ≡ 2 → ⊥) → (kind ≡ 3 → ⊥) → (kind ≡ 8 → ⊥) → (kind ≡ 9 → ⊥)
+pub onward-same : (kind p q : ℕ) (g : Check.Progress) → (kind ≡ 1 → ⊥) → (kind ≡ 2 → ⊥) → (kind ≡ 3 → ⊥) → (kind ≡ 8 → ⊥) → (kind ≡ 9 → ⊥) → (kind ≡ 10 → ⊥)
     → g ≡ onward (kindOf kind) p q g
 unfolding kindOf
-onward-same kind p q g n1 n2 n3 n8 n9 =
-    rw (ne-eqb kind 1 n1, ne-eqb kind 2 n2, ne-eqb kind 3 n3, ne-eqb kind 8 n8, ne-eqb kind 9 n9) (step (eqb kind 4) (eqb kind 5) (eqb kind 6) (eqb kind 7))
+onward-same kind p q g n1 n2 n3 n8 n9 n10 =
+    rw (ne-eqb kind 1 n1, ne-eqb kind 2 n2, ne-eqb kind 3 n3, ne-eqb kind 8 n8, ne-eqb kind 9 n9, ne-eqb kind 10 n10)
+    (either (eqb kind 4) (subtracts C) _ refl (either (eqb kind 5) (subtracts Y) _ refl (either (eqb kind 6) (subtracts X) _ refl
+    (either (eqb kind 7) divides _ refl (either (eqb kind 11) (subtracts X) _ refl (either (eqb kind 12) divides none refl refl))))))
   where
-    step : (four five six seven : Bool)
-        → g ≡ onward (cond four (subtracts C) (cond five (subtracts Y) (cond six (subtracts X) (cond seven divides none)))) p q g
-    step true five six seven = refl
-    step false true six seven = refl
-    step false false true seven = refl
-    step false false false true = refl
-    step false false false false = refl
+    either : (b : Bool) (j k : Kind) → g ≡ onward j p q g → g ≡ onward k p q g → g ≡ onward (cond b j k) p q g
+    either true j k e f = e
+    either false j k e f = f
 
 -- 12 of kind 1: a slot at most one above the highest closed
 pub one-above : (q c : ℕ) → 1 ≤ q → leb (q - 1) c ≡ leb q (suc c)

@@ -1,18 +1,20 @@
 -- A record that none of 10 to 12 refuses, by what is open.
-use Prim.Native.Nat.{ℕ, _+_, _≤_}
+use Prim.Native.Nat.{ℕ, _+_, _≤_, _<_}
 use native.Mathlib.Omega.{arith}
 use mathlib.Core.Path.{_≡_, refl, sym, ap, _∙_}
-use mathlib.Core.Bool.{Bool, true, false, cond, _&&_, true≢false}
-use lib.Dec.{eqb}
-use borrow.Author.Tests.{eqb-true, ne-eqb}
+use mathlib.Core.Bool.{Bool, true, false, cond, _&&_, and-false, true≢false}
+use lib.Dec.{ltb, eqb}
+use borrow.Author.Tests.{ltb-true, eqb-true, ne-eqb}
 use Rattle.model.specs.Formula.{Table, C, Y, X, numberOf}
-use Rattle.model.specs.Check.{Open, idle, busy, Kind, opens, subtracts, divides, closes, closesPivot, none, kindOf, formed, inOrder, inTurn, sameTable}
+use Rattle.model.specs.Check.{Open, idle, busy, Kind, opens, subtracts, divides, closes, closesPivot, none, kindOf}
+use Rattle.model.specs.Check.{belongs, formed, inOrder, inTurn, sameTable}
+use Rattle.model.proofs.Within.{within-range}
 use Rattle.progress.specs.declared.Head.{Head}
 use Rattle.progress.specs.declared.Target.{Target}
 use Rattle.progress.specs.declared.Target.the-variants as Target
 use Rattle.progress.specs.declared.Progress.{Progress}
 use Rattle.progress.specs.Steps.{openOf, openNumber, progressOf, firstOf, rightIn}
-use Rattle.progress.proofs.Judging.{arm}
+use Rattle.progress.proofs.Judging.{Known, isCrout, no-sweep, crout-arm}
 
 -- what the number of the open table says
 pub number-few : (t : Target) → openNumber t ≤ 3
@@ -85,22 +87,33 @@ unordered-busy p q u n false false false false true six n4 n5 n6 = ap (λ b. b &
 unordered-busy p q u n false false false false false true n4 n5 n6 = ap (λ b. b && true) (n6 refl)
 unordered-busy p q u n false false false false false false n4 n5 n6 = refl
 
-module _ (h : Head) (g : Progress) (kind p q : ℕ) where
-  pub right-arm : (k : Kind) → kindOf kind ≡ k → {f o t : Bool} → f ≡ formed k p q → o ≡ inOrder k (progressOf g .target)
-      → t ≡ inTurn (h .order) (h .coefficients) (h .slots) k p q (progressOf g) → f && (o && t) ≡ rightIn h g kind p q
-  right-arm k is {f} {o} {t} ef eo et = right-when f o t ∙ ap (λ r. eqb r 0) (arm h g kind p q k is ef eo et)
+-- what is above 9 is none of 1 to 9
+above-nine : (kind m : ℕ) → kind ≤ 9 → ltb 9 m ≡ true → eqb kind m ≡ false
+above-nine kind m low high = ne-eqb kind m (λ e. omega (arith, ltb-true 9 m high))
 
-  wrong : {o : Open} → progressOf g .target ≡ o → inOrder (kindOf kind) o && formed (kindOf kind) p q ≡ false → false ≡ rightIn h g kind p q
-  wrong is e = wrong-when _ _ _ (ap (λ o. inOrder (kindOf kind) o && formed (kindOf kind) p q) is ∙ e)
+module _ (h : Head) (g : Progress) (kind p q : ℕ) (some : 0 < h .slots) where
+  pub right-arm : {k : Kind} → Known isCrout kind k → {f o t : Bool} → f ≡ formed k p q → o ≡ inOrder k (progressOf g .target)
+      → t ≡ inTurn (h .order) (h .coefficients) (h .slots) k p q (progressOf g) → f && (o && t) ≡ rightIn h g kind p q
+  right-arm is {f} {o} {t} ten eleven twelve = right-when f o t ∙ ap (λ r. eqb r 0) (crout-arm h g kind p q some is ten eleven twelve)
+
+  -- a kind outside 1 to 9 is wrong by 10, apart by what is open
+  wrong : {o : Open} → progressOf g .target ≡ o → (kind ≤ 9 → inOrder (kindOf kind) o && formed (kindOf kind) p q ≡ false) → false ≡ rightIn h g kind p q
+  unfolding belongs
+  wrong {o} is other = wrong-when _ _ _ (rw (is, no-sweep (h .slots) some) (step o other (isCrout kind) refl))
+    where
+      step : (o : Open) → (kind ≤ 9 → inOrder (kindOf kind) o && formed (kindOf kind) p q ≡ false) → (b : Bool) → isCrout kind ≡ b
+          → inOrder (kindOf kind) o && (b && formed (kindOf kind) p q) ≡ false
+      step o other false e = and-false (inOrder (kindOf kind) o)
+      step o other true e = other (within-range kind 9 e .1)
 
   -- while nothing is open only 1 to 3 are right
   pub idle-wrong : progressOf g .target ≡ idle → (kind ≡ 1 → ⊥) → (kind ≡ 2 → ⊥) → (kind ≡ 3 → ⊥) → false ≡ rightIn h g kind p q
   unfolding kindOf
   idle-wrong is n1 n2 n3 = wrong is (others n1 n2 n3)
     where
-      others : (kind ≡ 1 → ⊥) → (kind ≡ 2 → ⊥) → (kind ≡ 3 → ⊥) → inOrder (kindOf kind) idle && formed (kindOf kind) p q ≡ false
-      others n1 n2 n3 =
-          rw (ne-eqb kind 1 n1, ne-eqb kind 2 n2, ne-eqb kind 3 n3)
+      others : (kind ≡ 1 → ⊥) → (kind ≡ 2 → ⊥) → (kind ≡ 3 → ⊥) → kind ≤ 9 → inOrder (kindOf kind) idle && formed (kindOf kind) p q ≡ false
+      others n1 n2 n3 low =
+          rw (ne-eqb kind 1 n1, ne-eqb kind 2 n2, ne-eqb kind 3 n3, above-nine kind 10 low refl, above-nine kind 11 low refl, above-nine kind 12 low refl)
           (unordered-idle p q (eqb kind 4) (eqb kind 5) (eqb kind 6) (eqb kind 7) (eqb kind 8) (eqb kind 9))
 
   -- while one is open, only 7 to 9 and the products of its table are right
@@ -112,7 +125,7 @@ module _ (h : Head) (g : Progress) (kind p q : ℕ) where
       apart : (m : ℕ) → eqb kind (m + 3) ≡ true → eqb m (numberOf u) ≡ false
       apart m e = ne-eqb m (numberOf u) (λ same. other (eqb-true kind (m + 3) e ∙ ap (λ m. m + 3) same))
 
-      others : (kind ≡ 7 → ⊥) → (kind ≡ 8 → ⊥) → (kind ≡ 9 → ⊥) → inOrder (kindOf kind) (busy u (g .number)) && formed (kindOf kind) p q ≡ false
-      others n7 n8 n9 =
-          rw (ne-eqb kind 7 n7, ne-eqb kind 8 n8, ne-eqb kind 9 n9)
+      others : (kind ≡ 7 → ⊥) → (kind ≡ 8 → ⊥) → (kind ≡ 9 → ⊥) → kind ≤ 9 → inOrder (kindOf kind) (busy u (g .number)) && formed (kindOf kind) p q ≡ false
+      others n7 n8 n9 low =
+          rw (ne-eqb kind 7 n7, ne-eqb kind 8 n8, ne-eqb kind 9 n9, above-nine kind 10 low refl, above-nine kind 11 low refl, above-nine kind 12 low refl)
           (unordered-busy p q u (g .number) (eqb kind 1) (eqb kind 2) (eqb kind 3) (eqb kind 4) (eqb kind 5) (eqb kind 6) (apart 1) (apart 2) (apart 3))

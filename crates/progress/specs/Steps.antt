@@ -1,10 +1,10 @@
 -- The progress of a check as the model's, and one record's judgement, 10 to 12. Definitions only.
 use Prim.Native.Nat.{ℕ, _+_}
-use mathlib.Core.Bool.{Bool, true, false}
+use mathlib.Core.Bool.{Bool, true, false, _&&_}
 use lib.Dec.{eqb}
 use Rattle.model.specs.Formula.{C, Y, X, numberOf}
 use Rattle.model.specs.Check as Check
-use Rattle.model.specs.Check.{idle, busy, kindOf, formed, inOrder, inTurn}
+use Rattle.model.specs.Check.{idle, busy, kindOf, belongs, formed, inOrder, allowed}
 use Rattle.progress.specs.declared.Target.{Target}
 use Rattle.progress.specs.declared.Target.the-variants as Target
 use Rattle.progress.specs.declared.Progress.{Progress}
@@ -41,8 +41,8 @@ firstOf true true true = 0
 -- the number of the refusal of a record of any kind, 0 if none, by record 0's N, n and s
 abbrev pub refusalOf : Head → Progress → ℕ → ℕ → ℕ → ℕ
 refusalOf h g kind p q =
-    firstOf (formed (kindOf kind) p q) (inOrder (kindOf kind) (progressOf g .target))
-    (inTurn (h .order) (h .coefficients) (h .slots) (kindOf kind) p q (progressOf g))
+    firstOf (belongs (h .slots) kind && formed (kindOf kind) p q) (inOrder (kindOf kind) (progressOf g .target))
+    (allowed (h .order) (h .coefficients) (h .slots) (kindOf kind) p q (progressOf g))
 
 -- none of 10 to 12 refuses the record
 abbrev pub rightIn : Head → Progress → ℕ → ℕ → ℕ → Bool

@@ -1,12 +1,13 @@
-// The progress of a check, and one record against 10 to 12: document 01, "Where each refusal is checked"; document 02, A.11.
+// The progress of a check, and one record against 10 to 12: document 01, "Where each refusal is checked"; document 02, A.7 and A.11.
 use numbers::larger;
 use numbers::within;
 ghost use mathlib.Core.Path.{_≡_};
 ghost use mathlib.Core.Bool.{_&&_};
-ghost use Prim.Native.Nat.{_≤_};
+ghost use Prim.Native.Nat.{_≤_, _<_};
 ghost use lib.Dec.{eqb};
+ghost use Rattle.model.specs.Label.{within as Label·within};
 ghost use Rattle.model.specs.Formula.{C, Y, X};
-ghost use Rattle.model.specs.Check.{idle, opens, kindOf, inTurn, counted};
+ghost use Rattle.model.specs.Check.{idle, opens, kindOf, inTurn, inRow, counted, lengthY};
 ghost use Rattle.model.specs.Check.{complete as Check·complete};
 ghost use Rattle.model.specs.Check.{begun as Check·begun};
 ghost use Rattle.model.specs.Check.{onward as Check·onward};
@@ -50,12 +51,15 @@ pub fn begun() -> Progress
     }
 }
 
-// Whether a record is refused by none of 10 to 12. What is open is asked first, which leaves few kinds: a right record passes by three or four
-// tests, and `judge`, by kinds, is left to name what is wrong.
+// Whether a record is refused by none of 10 to 12. In a Crout program what is open is asked first, which leaves few kinds: a right record passes
+// by three or four tests, and `judge`, by kinds, is left to name what is wrong.
 pub fn is_right(h: Head, g: Progress, kind: u32, p: u32, q: u32) -> bool
     requires { ⌜ total (progressOf g) ≤ 100000000 ⌝ }
     ensures { λ v. ⌜ v ≡ rightIn h g kind p q ⌝ }
 {
+    if h.slots == 0 {
+        return judge_row(h, g, kind, p, q) == 0;
+    }
     let target = g.target;
     let open = open_number(target);
     if open == 0 {
@@ -75,7 +79,7 @@ pub fn is_right(h: Head, g: Progress, kind: u32, p: u32, q: u32) -> bool
 
 // The same while nothing is open: only kinds 1 to 3 are right.
 fn opens_rightly(h: Head, g: Progress, kind: u32, p: u32, q: u32) -> bool
-    requires { ⌜ (progressOf g .target ≡ idle) × (total (progressOf g) ≤ 100000000) ⌝ }
+    requires { ⌜ (0 < h .slots) × (progressOf g .target ≡ idle) × (total (progressOf g) ≤ 100000000) ⌝ }
     ensures { λ v. ⌜ v ≡ rightIn h g kind p q ⌝ }
 {
     if kind == 1 {
@@ -95,6 +99,9 @@ pub fn judge(h: Head, g: Progress, kind: u32, p: u32, q: u32) -> u32
     requires { ⌜ total (progressOf g) ≤ 100000000 ⌝ }
     ensures { λ r. ⌜ r ≡ refusalOf h g kind p q ⌝ }
 {
+    if h.slots == 0 {
+        return judge_row(h, g, kind, p, q);
+    }
     let target = g.target;
     let open = open_number(target);
     match kind {
@@ -106,6 +113,22 @@ pub fn judge(h: Head, g: Progress, kind: u32, p: u32, q: u32) -> u32
         8 => first_of(unused(p, q), open != 0, true),
         9 => first_of(unused(p, q), open == 1, true),
         0 | 10..=u32::MAX => 10,
+    }
+}
+
+// The same with s = 0, in a sweep (A.7): 10 opens a row, 11 subtracts, 12 divides, 8 closes, and no other kind passes 10.
+fn judge_row(h: Head, g: Progress, kind: u32, p: u32, q: u32) -> u32
+    requires { ⌜ (h .slots ≡ 0) × (total (progressOf g) ≤ 100000000) ⌝ }
+    ensures { λ r. ⌜ r ≡ refusalOf h g kind p q ⌝ }
+{
+    let target = g.target;
+    let open = open_number(target);
+    match kind {
+        8 => first_of(unused(p, q), open != 0, true),
+        10 => first_of(q == 0, open == 0, turn_of_row(h, g, p)),
+        11 => first_of(true, open == 3, readable_in_row(h, p, q)),
+        12 => first_of(q == 0, open != 0, within(p, h.coefficients)),
+        _ => 10,
     }
 }
 
@@ -125,7 +148,7 @@ fn first_of(formed: bool, ordered: bool, turned: bool) -> u32
     0
 }
 
-// The progress after a record: kinds 1 to 3 open a target, 8 and 9 close it.
+// The progress after a record: kinds 1 to 3 and 10 open a target, 8 and 9 close it.
 pub fn onward(kind: u32, p: u32, q: u32, g: Progress) -> Progress
     requires { ⌜ total (progressOf g) ≤ 100000000 ⌝ }
     ensures { λ r. ⌜ progressOf r ≡ Check·onward (kindOf kind) p q (progressOf g) ⌝ }
@@ -133,13 +156,13 @@ pub fn onward(kind: u32, p: u32, q: u32, g: Progress) -> Progress
     match kind {
         1 => opened(g, Target::C, q),
         2 => opened(g, Target::Y, p),
-        3 => opened(g, Target::X, p),
+        3 | 10 => opened(g, Target::X, p),
         8 | 9 => closed(g),
         _ => g,
     }
 }
 
-// Nothing is open, and C, Y and X are all closed.
+// 13: nothing is open, and C, Y and X are all closed.
 pub fn complete(h: Head, g: Progress) -> bool
     ensures { λ r. ⌜ r ≡ Check·complete (h .order) (h .slots) (progressOf g) ⌝ }
 {
@@ -147,7 +170,14 @@ pub fn complete(h: Head, g: Progress) -> bool
     let slots = h.slots;
     let target = g.target;
     let open = open_number(target);
-    open == 0 && (g.c == slots && (g.y == order && g.x == order))
+    open == 0 && (g.c == slots && (g.y == length_of_y(order, slots) && g.x == order))
+}
+
+// How many entries Y has: N, or none in a sweep, where s = 0 (document 02, A.7).
+pub fn length_of_y(order: u32, slots: u32) -> u32
+    ensures { λ r. ⌜ r ≡ lengthY order slots ⌝ }
+{
+    if slots == 0 { 0 } else { order }
 }
 
 // The number of the open table, 0 if none is open.
@@ -207,6 +237,21 @@ fn readable(h: Head, g: Progress, kind: u32, p: u32, q: u32) -> bool
         5 => within(q, g.y),
         _ => within(q, h.order) && h.order - q < g.x,
     }
+}
+
+// 12 of kind 10: X(p) opens after the closed ones.
+fn turn_of_row(h: Head, g: Progress, p: u32) -> bool
+    requires { ⌜ total (progressOf g) ≤ 100000000 ⌝ }
+    ensures { λ r. ⌜ r ≡ inRow (h .order) (h .coefficients) (opens X) p 0 (progressOf g) ⌝ }
+{
+    p == g.x + 1 && p <= h.order
+}
+
+// 12 of kind 11: A(p) is in the plan, and X(q) any entry, closed in this sweep or not.
+fn readable_in_row(h: Head, p: u32, q: u32) -> bool
+    ensures { λ r. ⌜ r ≡ (Label·within p (h .coefficients) && Label·within q (h .order)) ⌝ }
+{
+    within(p, h.coefficients) && within(q, h.order)
 }
 
 // The target's entry of that number is open.

@@ -9,13 +9,13 @@ use lib.Ieee.{Float}
 use borrow.Author.Tests.{eqb-true}
 use Rattle.model.specs.Arith.{plusZero}
 use Rattle.model.specs.Formula.{C, Y, X}
-use Rattle.model.specs.Check.{word, Verdict, fine, refusal, check}
-use Rattle.model.specs.Run.{Outcome, solution, stopped, refusedBy, checkValues, ran}
+use Rattle.model.specs.Check.{word, lengthY, Verdict, fine, refusal, check}
+use Rattle.model.specs.Run.{Outcome, solution, stopped, refusedBy, unsettledAt, checkValues, ran}
 use Rattle.model.specs.Run.{Reply, solves, stops, refuses, reply, leaves}
 use Rattle.model.proofs.Passing.{both}
 use Rattle.model.proofs.Runs.{gated, lengthsRight, ranBy, ran-is, ran-fine}
 use Rattle.model.proofs.Running.{NotRefused}
-use Rattle.runner.specs.Following.{done, stands, lengthsFit, Fit}
+use Rattle.runner.specs.Following.{done, stands, Stood, lengthsFit, Fit}
 
 -- what a run that ends by o tells and leaves in tables that held c, y and x
 abbrev pub Leaves : Outcome → Reply → List Float → List Float → List Float → List Float → List Float → List Float → Type 0
@@ -25,27 +25,27 @@ leaves-refused : (o : Outcome) (r d : ℕ) (c y x : List Float) → o ≡ refuse
 unfolding reply leaves
 leaves-refused o r d c y x e = rw e (refl, (refl, (refl, refl)))
 
--- the reply to a solution
-abbrev pub SolvedReply : Reply → Type 0
-SolvedReply (solves p q g) = Unit {0}
-SolvedReply (stops r k t n) = ⊥
-SolvedReply (refuses r d) = ⊥
+-- the reply to a refusal by 16 or 17
+abbrev pub StoppedReply : Reply → Type 0
+StoppedReply (solves p q g k) = ⊥
+StoppedReply (stops r k t n) = Unit {0}
+StoppedReply (refuses r d) = ⊥
 
--- What the records leave in c₁, y₁ and x₁ is final on a solution, and is cleared else.
+-- What the records leave in c₁, y₁ and x₁ is cleared after one, and is final else.
 module _ (c y x c₁ y₁ x₁ : List Float) where
-  pub leaves-solved : (o : Outcome) (r : Reply) → SolvedReply r → r ≡ reply o → c₁ ≡ stands o C c₁ → y₁ ≡ stands o Y y₁ → x₁ ≡ stands o X x₁
-      → Leaves o r c y x c₁ y₁ x₁
+  pub leaves-final : (o : Outcome) (r : Reply) → (StoppedReply r → ⊥) → NotRefused o → Stood o r c₁ y₁ x₁ → Leaves o r c y x c₁ y₁ x₁
   unfolding reply leaves stands
-  leaves-solved (solution t p q g) r is e ec ey ex = (e, (ec, (ey, ex)))
-  leaves-solved (stopped n k u m) r is e ec ey ex = absurd (subst SolvedReply e is)
-  leaves-solved (refusedBy n d) r is e ec ey ex = absurd (subst SolvedReply e is)
+  leaves-final (solution t p q g k) r is runs stood = stood
+  leaves-final (unsettledAt t) r is runs stood = stood
+  leaves-final (stopped n k u m) r is runs stood = absurd (is (subst StoppedReply (sym (stood .0)) tt))
 
-  pub leaves-cleared : (o : Outcome) (r : Reply) → (SolvedReply r → ⊥) → NotRefused o → r ≡ reply o
-      → length c₁ ≡ length c → length y₁ ≡ length y → length x₁ ≡ length x
+  pub leaves-cleared : (o : Outcome) (r : Reply) → StoppedReply r → r ≡ reply o → length c₁ ≡ length c → length y₁ ≡ length y → length x₁ ≡ length x
       → Leaves o r c y x (replicate (length c₁) plusZero) (replicate (length y₁) plusZero) (replicate (length x₁) plusZero)
   unfolding reply leaves
-  leaves-cleared (solution t p q g) r is runs e lc ly lx = absurd (is (subst SolvedReply (sym e) tt))
-  leaves-cleared (stopped n k u m) r is runs e lc ly lx = rw (lc, ly, lx) (e, (refl, (refl, refl)))
+  leaves-cleared (solution t p q g k) r is e lc ly lx = absurd (subst StoppedReply e is)
+  leaves-cleared (unsettledAt t) r is e lc ly lx = absurd (subst StoppedReply e is)
+  leaves-cleared (refusedBy n d) r is e lc ly lx = absurd (subst StoppedReply e is)
+  leaves-cleared (stopped n k u m) r is e lc ly lx = rw (lc, ly, lx) (e, (refl, (refl, refl)))
 
 module _ (W : List ℕ) (A B c y x : List Float) where
   abbrev Fits : Bool
@@ -58,13 +58,13 @@ module _ (W : List ℕ) (A B c y x : List Float) where
       let a = both (eqb (length A) (word W 1)) _ f in
       let b = both (eqb (length B) (word W 0)) _ (a .1) in
       let s = both (eqb (length c) (word W 2)) _ (b .1) in
-      let n = both (eqb (length y) (word W 0)) (eqb (length x) (word W 0)) (s .1) in
+      let n = both (eqb (length y) (lengthY (word W 0) (word W 2))) (eqb (length x) (word W 0)) (s .1) in
       record {
         checked = e;
         in-a = eqb-true (length A) (word W 1) (a .0);
         in-b = eqb-true (length B) (word W 0) (b .0);
         in-c = eqb-true (length c) (word W 2) (s .0);
-        in-y = eqb-true (length y) (word W 0) (n .0);
+        in-y = eqb-true (length y) (lengthY (word W 0) (word W 2)) (n .0);
         in-x = eqb-true (length x) (word W 0) (n .1);
       }
 

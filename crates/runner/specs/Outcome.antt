@@ -4,6 +4,6 @@ use Rattle.runner.specs.declared.Outcome.{Outcome}
 use Rattle.runner.specs.declared.Outcome.the-variants.{Solved, Stopped, Refused}
 
 abbrev pub replyOf : Outcome → Reply
-replyOf (Solved products quotients vanished) = solves products quotients vanished
+replyOf (Solved products quotients vanished sweeps) = solves products quotients vanished sweeps
 replyOf (Stopped number at table target) = stops number at table target
 replyOf (Refused number detail) = refuses number detail

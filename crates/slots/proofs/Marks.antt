@@ -5,47 +5,64 @@ use native.Mathlib.Omega.{arith}
 use mathlib.Core.Path.{_≡_, refl, sym, ap, _∙_}
 use mathlib.Core.Bool.{Bool, true, false, cond, or-true, or-false}
 use mathlib.Core.List.{List, [], _∷_, _++_, append-nil}
-use borrow.Author.Tests.{eq-eqb, ne-eqb}
+use borrow.Author.Tests.{lt-ltb, eq-eqb, ne-eqb}
 use lib.Dec.{ltb}
 use lib.ListN.{length, length-set, getD, set, drop, replicate, length-replicate, getD-replicate, length-append, length-drop, List·getD-append}
 use lib.Seq.{getD-set-same, getD-set-other, drop-set-lt, drop-at}
 use Rattle.model.specs.Fill.{Plan, positionFrom, position}
-use Rattle.model.proofs.Plans.{planned-more}
+use Rattle.model.proofs.WorkNumbers.{positions-first}
+use Rattle.model.proofs.Plans.{position-more, planned-more}
 use Rattle.slots.specs.Marks.{Marks, Marked}
 
 -- ---- marking a plan
 
--- in cleared work numbers no label is marked
+-- each of the first N² work numbers is its label's position, and the others are as they came
+pub record Positioned (N : ℕ) (L : Plan) (before work : List ℕ) : Type 0 where
+  pub each : (k : ℕ) → k < N * N → getD work k 0 ≡ position L (suc k)
+  pub size : length work ≡ length before
+  pub rest : drop (N * N) work ≡ drop (N * N) before
+
+-- in cleared work numbers no label has one
 module _ (N : ℕ) (before : List ℕ) {cleared : List ℕ} (zeros : cleared ≡ replicate (N * N) 0 ++ drop (N * N) before) where
-  pub marked-none : Marked N [] cleared cleared
+  pub positioned-none : Positioned N [] cleared cleared
   unfolding position positionFrom
-  marked-none = record { marked = record { marks = λ k from below. rw zeros (ap (ltb 0) (zero-at k below)) }; size = refl; rest = refl }
+  positioned-none = record { each = λ k below. rw zeros (zero-at k below); size = refl; rest = refl }
     where
       zero-at : (k : ℕ) → k < N * N → getD (replicate (N * N) 0 ++ drop (N * N) before) k 0 ≡ 0
       zero-at k below = List·getD-append (replicate (N * N) 0) _ 0 k (rw length-replicate below) ∙ getD-replicate (N * N) k 0 0 below
 
   -- what is marked since they were cleared
-  pub marked-since : {L : Plan} {work : List ℕ} → N * N ≤ length before → Marked N L cleared work → Marked N L before work
-  marked-since room m = record {
-    marked = m .marked;
-    size = m .size ∙ rw zeros (simp (length-append, length-replicate, length-drop) (omega arith));
-    rest = m .rest ∙ rw zeros (drop-at (replicate (N * N) 0) _ (N * N) (length-replicate (N * N) 0));
-  }
+  pub marked-since : {L : Plan} {work : List ℕ} → N * N ≤ length before → Positioned N L cleared work → Marked N L before work
+  marked-since {L} {work} room m =
+      let long : length work ≡ length before =
+      m .size ∙ rw zeros (simp (length-append, length-replicate, length-drop) (omega arith)) in
+      record {
+        positions = positions-first N L work (omega arith) (m .each);
+        marked = record { marks = λ k from below. ap (ltb 0) (m .each k below) };
+        size = long;
+        rest = m .rest ∙ rw zeros (drop-at (replicate (N * N) 0) _ (N * N) (length-replicate (N * N) 0));
+      }
 
--- one label more
-pub marked-more : {N : ℕ} {L : Plan} {before work : List ℕ} (y : ℕ) → Marked N L before work → N * N ≤ length before → 1 ≤ y → y ≤ N * N
-    → Marked N (L ++ (y ∷ [])) before (set work (y - 1) 1)
-marked-more {N} {L} {before} {work} y m room low high = record {
-  marked = record { marks = λ k from below. here k below (ℕ-discrete k (y - 1)) };
-  size = length-set work (y - 1) 1 ∙ m .size;
-  rest = drop-set-lt (N * N) work (y - 1) 1 (omega arith) ∙ m .rest;
+-- one label more, which was not there before
+pub positioned-more : {N : ℕ} {L : Plan} {before work : List ℕ} (y : ℕ) → Positioned N L before work → N * N ≤ length before → 1 ≤ y → y ≤ N * N
+    → position L y ≡ 0 → Positioned N (L ++ (y ∷ [])) before (set work (y - 1) (suc (length L)))
+positioned-more {N} {L} {before} {work} y m room low high new = record {
+  each = λ k below. here k below (ℕ-discrete k (y - 1));
+  size = length-set work (y - 1) (suc (length L)) ∙ m .size;
+  rest = drop-set-lt (N * N) work (y - 1) (suc (length L)) (omega arith) ∙ m .rest;
 }
   where
-    here : (k : ℕ) → k < N * N → Dec (k ≡ y - 1) → ltb 0 (getD (set work (y - 1) 1) k 0) ≡ ltb 0 (position (L ++ (y ∷ [])) (suc k))
-    here k below (yes e) = rw (e, getD-set-same work (y - 1) 1 0 (omega (arith, m .size)), planned-more L y (suc (y - 1)), eq-eqb y (suc (y - 1)) (omega arith))
-        (sym (or-true (ltb 0 (position L (suc (y - 1))))))
-    here k below (no d) = rw (getD-set-other work (y - 1) k 1 0 d, planned-more L y (suc k), ne-eqb y (suc k) (λ e. d (omega arith)))
-        (m .marked .marks k (omega arith) below ∙ sym (or-false (ltb 0 (position L (suc k)))))
+    or-none : (p : ℕ) → p ≡ cond (ltb 0 p) p 0
+    or-none zero = refl
+    or-none (suc p) = rw (lt-ltb 0 (suc p) (omega arith))
+
+    here : (k : ℕ) → k < N * N → Dec (k ≡ y - 1) → getD (set work (y - 1) (suc (length L))) k 0 ≡ position (L ++ (y ∷ [])) (suc k)
+    here k below (yes e) =
+        let back : suc (y - 1) ≡ y = omega arith in
+        rw (e, getD-set-same work (y - 1) (suc (length L)) 0 (omega (arith, m .size)), back, position-more L y y, new, eq-eqb y y refl)
+    here k below (no d) =
+        rw (getD-set-other work (y - 1) k (suc (length L)) 0 d, position-more L y (suc k), ne-eqb y (suc k) (λ e. d (omega arith)))
+        (m .each k below ∙ or-none (position L (suc k)))
 
 -- ---- any work numbers mark a plan
 

@@ -34,7 +34,7 @@ pub struct Filled {
     pub missing: u32,
 }
 
-// Marks a plan: work number K becomes 1 where label K is in the plan, else 0.
+// Marks a plan: work number K becomes the position of label K in the plan, 0 where it isn't there.
 pub fn mark(n: u32, plan: &[u32], work: &mut [u32])
     requires { ⌜ isOrder n ≡ true ⌝ }
     requires { ⌜ judged n 0 1 (now plan) ≡ good ⌝ }
@@ -44,7 +44,7 @@ pub fn mark(n: u32, plan: &[u32], work: &mut [u32])
     clear(work, wide(n * n));
     let mut k = 0;
     while k < plan.len() {
-        work[wide(plan[k] - 1)] = 1;
+        work[wide(plan[k] - 1)] = k as u32 + 1;
         k += 1;
     }
 }

@@ -1,17 +1,19 @@
 -- One record, kind by kind: what the code's step gives is the model's step, and the state stays sound.
-use Prim.Native.Nat.{ℕ}
+use Prim.Native.Nat.{ℕ, suc, _≤_}
+use native.Mathlib.Omega.{arith}
 use native.Mathlib.Nat.{add-zero}
 use native.Mathlib.Numerals.{add-one}
 use mathlib.Core.Path.{_≡_, refl, sym, ap, ap₂, subst, _∙_}
 use mathlib.Core.Bool.{Bool, true, false}
 use mathlib.Core.List.{List}
-use borrow.Author.Tests.{ne-eqb}
 use lib.ListN.{length}
 use lib.Ieee.{Float}
+use Rattle.model.specs.Label.{within}
 use Rattle.model.specs.Arith.{Answer, number, overflow, zeroDivisor, quotient, vanishes}
 use Rattle.model.specs.Formula.{Table, C, Y, X, numberOf, entry, starting, less}
-use Rattle.model.specs.Check.{Kind, opens, subtracts, divides, none, kindOf}
+use Rattle.model.specs.Check.{Kind, opens, subtracts, divides, kindOf}
 use Rattle.model.specs.Run as Run
+use Rattle.model.proofs.Within.{within-range}
 use Rattle.state.specs.declared.State.{State}
 use Rattle.state.specs.declared.Stepped.{Stepped}
 use Rattle.state.specs.declared.Stepped.the-variants.{On}
@@ -23,16 +25,24 @@ table-named Y = refl
 table-named X = refl
 
 -- what a kind relies on
-pub allowed-as : {la lb lc ly lx : ℕ} {z : State} {k k′ : Kind} {p q : ℕ} → Ready la lb lc ly lx z k p q → k ≡ k′ → Allowed la lc ly lx z k′ p q
+pub allowed-as : {la lb lc ly lx : ℕ} {z : State} {kind : ℕ} {k : Kind} {p q : ℕ} → Ready la lb lc ly lx z kind p q → kindOf kind ≡ k
+    → Allowed la lc ly lx z k p q
 allowed-as {la = la} {lc = lc} {ly = ly} {lx = lx} {z = z} {p = p} {q = q} ready e = subst (λ k. Allowed la lc ly lx z k p q) e (ready .allowed)
 
--- no kind but 1 to 9
-pub no-kind : (k : ℕ) → (k ≡ 1 → ⊥) → (k ≡ 2 → ⊥) → (k ≡ 3 → ⊥) → (k ≡ 4 → ⊥) → (k ≡ 5 → ⊥)
-    → (k ≡ 6 → ⊥) → (k ≡ 7 → ⊥) → (k ≡ 8 → ⊥) → (k ≡ 9 → ⊥) → kindOf k ≡ none
-unfolding kindOf
-no-kind k a b c d e f g h i =
-    rw (kindOf, ne-eqb k 1 a, ne-eqb k 2 b, ne-eqb k 3 c, ne-eqb k 4 d, ne-eqb k 5 e)
-    (rw (ne-eqb k 6 f, ne-eqb k 7 g, ne-eqb k 8 h, ne-eqb k 9 i))
+-- a Crout program has no kind but 1 to 9
+past : (k m : ℕ) → m ≤ k → (k ≡ m → ⊥) → suc m ≤ k
+past k m low other = omega arith
+
+pub no-kind : (k : ℕ) → within k 9 ≡ true → (k ≡ 1 → ⊥) → (k ≡ 2 → ⊥) → (k ≡ 3 → ⊥) → (k ≡ 4 → ⊥) → (k ≡ 5 → ⊥)
+    → (k ≡ 6 → ⊥) → (k ≡ 7 → ⊥) → (k ≡ 8 → ⊥) → (k ≡ 9 → ⊥) → ⊥
+no-kind k own a b c d e f g h i =
+    let range = within-range k 9 own in
+    let four = past k 4 (past k 3 (past k 2 (past k 1 (range .0) a) b) c) d in
+    let nine = past k 9 (past k 8 (past k 7 (past k 6 (past k 5 four e) f) g) h) i in
+    no-more (range .1) nine
+  where
+    no-more : k ≤ 9 → 10 ≤ k → ⊥
+    no-more high low = omega arith
 
 module _ (A B : List Float) (limit : Float) (c y x : List Float) (z : State) (sound : Sound (length c) (length y) (length x) z) where
   -- r with the tables c′, y′ and x′ is what a record of kind k gives

@@ -1,4 +1,5 @@
 -- Laws about the state of a run: `runner` cites the public ones.
 pub mod Tables
 pub mod Steps
+mod Rows
 mod Arms

@@ -3,14 +3,15 @@ use Prim.Native.Nat.{ℕ, suc, _+_, _-_, _≤_, _<_, max}
 use native.Mathlib.Numerals.{add-one}
 use native.Mathlib.Omega.{arith}
 use mathlib.Core.Path.{_≡_, refl, sym, ap, subst, _∙_}
-use mathlib.Core.Bool.{Bool, _&&_}
+use mathlib.Core.Bool.{Bool, false, _&&_}
 use mathlib.Core.List.{List}
+use lib.Dec.{ltb}
 use lib.ListN.{length, take, drop, set, getD, length-set, length-drop}
 use lib.Seq.{length-take-le, getD-take, take-suc-set}
 use lib.Ieee.{Float}
-use borrow.Author.Tests.{ne-eqb}
+use borrow.Author.Tests.{ne-eqb, le-ltb}
 use Rattle.model.specs.Arith.{plusZero, Answer, number, overflow, zeroDivisor, isFinite, vanishes}
-use Rattle.model.specs.Formula.{Table, C, Y, X, entry, closed, less}
+use Rattle.model.specs.Formula.{Table, C, Y, X, entry, putX, closed, less}
 use Rattle.model.specs.Run as Run
 use Rattle.model.proofs.Arith.{less-finite}
 use Rattle.arith.specs.declared.Operation.{Operation}
@@ -77,6 +78,7 @@ module _ (z : State) (c y x : List Float) where
     products = z .products;
     quotients = z .quotients;
     vanished = z .vanished;
+    moved = z .moved;
   }
 
   pub free-in : {t : Table} → tableOf (z .table) ≡ t → Free (length c) (length y) (length x) z → FreeIn (length c) (length y) (length x) z t
@@ -93,9 +95,11 @@ module _ (z : State) (c y x : List Float) where
   unfolding closed
   close-y e h = rw (e, closed, add-one, take-suc-set)
 
-  pub close-x : tableOf (z .table) ≡ X → z .x < length x
+  pub close-x : tableOf (z .table) ≡ X → FreeIn (length c) (length y) (length x) z X
       → stateOf (counting (z .c) (z .y) (z .x + 1)) c y (set x (length x - (z .x + 1)) (z .running)) ≡ Run.closing (stateOf z c y x)
-  unfolding closed
+  unfolding closed putX
   close-x e h =
       let from : suc (length x - (z .x + 1)) ≡ length x - z .x = omega arith in
-      rw (e, closed, length-set, drop-set x (length x - (z .x + 1)) (z .running) (omega arith), from)
+      let unclosed : ℕ = length x - length (drop (length x - z .x) x) in
+      let last : ltb unclosed (z .target) ≡ false = le-ltb unclosed (z .target) (omega (arith, length-drop (length x - z .x) x)) in
+      rw (e, closed, last, length-set, drop-set x (length x - (z .x + 1)) (z .running) (omega arith), from)

@@ -23,6 +23,13 @@ take-set (x ∷ l) (suc n) (suc m) zero a h le is =
     ap (λ k. a ∷ take k l) as-many
 take-set (x ∷ l) (suc n) (suc m) (suc i) a h le is = ap (λ r. x ∷ r) (take-set l n m i a (omega arith) (omega arith) (omega arith))
 
+-- an entry put within a row is stored there
+pub put-set : (l : List Float) (i : ℕ) (a : Float) → i < length l → put l i a ≡ set l i a
+unfolding put
+put-set [] i a h = absurd (not-suc-le-zero h)
+put-set (x ∷ l) zero a h = refl
+put-set (x ∷ l) (suc i) a h = ap (λ r. x ∷ r) (put-set l i a (le-of-suc-le-suc h))
+
 -- the entry stored at i stands before those from the next one on
 pub drop-set : (l : List Float) (i : ℕ) (a : Float) → i < length l → drop i (set l i a) ≡ a ∷ drop (suc i) l
 drop-set [] i a h = absurd (not-suc-le-zero h)

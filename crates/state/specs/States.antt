@@ -1,14 +1,16 @@
 -- The state of a run with the lent tables as the model's state, and what a step may rely on. Definitions only.
 use Prim.Native.Nat.{ℕ, suc, _+_, _-_, _≤_, _<_}
 use mathlib.Core.Path.{_≡_}
-use mathlib.Core.Bool.{Bool, cond}
+use mathlib.Core.Bool.{Bool, true, false, cond, _||_}
 use mathlib.Core.List.{List}
 use lib.Dec.{eqb}
-use lib.ListN.{length, take, drop}
+use lib.ListN.{length, take, drop, getD}
 use lib.Ieee.{Float}
+use Rattle.model.specs.Label.{within}
 use Rattle.model.specs.Arith.{plusZero, Answer, number, overflow, zeroDivisor}
 use Rattle.model.specs.Formula.{Table, C, Y, X, numberOf}
-use Rattle.model.specs.Check.{Kind, opens, subtracts, divides, closes, closesPivot, none}
+use Rattle.model.specs.Sweep.{movesMore}
+use Rattle.model.specs.Check.{Kind, opens, subtracts, divides, closes, closesPivot, none, kindOf, belongs}
 use Rattle.model.specs.Run as Run
 use Rattle.state.specs.declared.State.{State}
 use Rattle.state.specs.declared.Stepped.{Stepped}
@@ -36,7 +38,37 @@ steppedOf (Stop r) c y x = Run.stop r
 
 -- the state before the first record
 abbrev pub unopened : State
-unopened = record { running = plusZero; table = 1; target = 0; c = 0; y = 0; x = 0; products = 0; quotients = 0; vanished = 0 }
+unopened = record {
+  running = plusZero;
+  table = 1;
+  target = 0;
+  c = 0;
+  y = 0;
+  x = 0;
+  products = 0;
+  quotients = 0;
+  vanished = 0;
+  moved = false;
+}
+
+-- the state before the first sweep: A, B and X stand there whole
+abbrev pub whole : ℕ → ℕ → State
+whole n N = record {
+  running = plusZero;
+  table = 1;
+  target = 0;
+  c = n;
+  y = N;
+  x = N;
+  products = 0;
+  quotients = 0;
+  vanished = 0;
+  moved = false;
+}
+
+-- 300 sweeps of 100,000,000 records make no more products and quotients
+abbrev pub mostMade : ℕ
+mostMade = 30000000000
 
 -- the states after an open, a subtract and a divide
 abbrev pub opened : State → ℕ → ℕ → Float → State
@@ -50,6 +82,7 @@ opened z t k v = record {
   products = z .products;
   quotients = z .quotients;
   vanished = z .vanished;
+  moved = z .moved;
 }
 
 -- gone says whether the product vanished
@@ -64,6 +97,7 @@ subtracted z gone v = record {
   products = z .products + 1;
   quotients = z .quotients;
   vanished = cond gone (z .vanished + 1) (z .vanished);
+  moved = z .moved;
 }
 
 abbrev pub dividedBy : State → Float → State
@@ -77,7 +111,29 @@ dividedBy z v = record {
   products = z .products;
   quotients = z .quotients + 1;
   vanished = z .vanished;
+  moved = z .moved;
 }
+
+-- the state after a row that moves, or does not, and that of a new sweep
+abbrev pub movedSo : State → Bool → State
+movedSo z moves = record {
+  running = z .running;
+  table = z .table;
+  target = z .target;
+  c = z .c;
+  y = z .y;
+  x = z .x;
+  products = z .products;
+  quotients = z .quotients;
+  vanished = z .vanished;
+  moved = moves;
+}
+
+abbrev pub settled : State → Bool → State
+settled z moves = movedSo z (z .moved || moves)
+
+abbrev pub unmoved : State → State
+unmoved z = movedSo z false
 
 -- an operation's answer as a step
 abbrev pub answered : Answer → (Float → State) → Stepped
@@ -96,11 +152,12 @@ abbrev pub SoundStep : ℕ → ℕ → ℕ → Stepped → Type 0
 SoundStep lc ly lx (On z) = Sound lc ly lx z
 SoundStep lc ly lx (Stop r) = Unit {0}
 
--- the open target may be closed: of C one of the slots, at most one above the highest closed; of Y and X there is one that is not closed
+-- the open target may be closed: of C one of the slots, at most one above the highest closed; of Y there is one that is not closed; of X it is the last
+-- one that is not
 abbrev pub FreeIn : ℕ → ℕ → ℕ → State → Table → Type 0
 FreeIn lc ly lx z C = (0 < z .target) × (z .target ≤ lc) × (z .target ≤ suc (z .c))
 FreeIn lc ly lx z Y = z .y < ly
-FreeIn lc ly lx z X = z .x < lx
+FreeIn lc ly lx z X = (0 < z .target) × (z .target + z .x ≡ lx)
 
 abbrev pub Free : ℕ → ℕ → ℕ → State → Type 0
 Free lc ly lx z = FreeIn lc ly lx z (tableOf (z .table))
@@ -122,10 +179,45 @@ Allowed la lc ly lx z closes p q = Free lc ly lx z
 Allowed la lc ly lx z closesPivot p q = Free lc ly lx z
 Allowed la lc ly lx z none p q = Unit {0}
 
--- what a step relies on, with the lengths of A, B, C, Y and X
-pub record Ready (la lb lc ly lx : ℕ) (z : State) (k : Kind) (p q : ℕ) : Type 0 where
+-- what a step of Crout's relies on, with the lengths of A, B, C, Y and X
+pub record Ready (la lb lc ly lx : ℕ) (z : State) (kind p q : ℕ) : Type 0 where
+  pub own : within kind 9 ≡ true
   pub sound : Sound lc ly lx z
-  pub few : z .products + z .quotients < 100000000
+  pub few : z .products + z .quotients < mostMade
   pub gone : z .vanished ≤ z .products
   pub rows : lb ≡ ly
-  pub allowed : Allowed la lc ly lx z k p q
+  pub allowed : Allowed la lc ly lx z (kindOf kind) p q
+
+-- ---- a sweep (A.7)
+
+-- what a step of a sweep relies on by its kind, with the lengths of A, B and X
+abbrev pub AllowedInRow : ℕ → ℕ → ℕ → State → Kind → ℕ → ℕ → Type 0
+AllowedInRow la lb lx z (opens t) p q = (t ≡ X) × Of lb p
+AllowedInRow la lb lx z (subtracts t) p q = (t ≡ X) × Of la p × Of lx q
+AllowedInRow la lb lx z divides p q = Of la p
+AllowedInRow la lb lx z closes p q = (tableOf (z .table) ≡ X) × Of lx (z .target)
+AllowedInRow la lb lx z closesPivot p q = ⊥
+AllowedInRow la lb lx z none p q = ⊥
+
+pub record SweepReady (la lb lx : ℕ) (z : State) (kind p q : ℕ) : Type 0 where
+  pub named : numberOf (tableOf (z .table)) ≡ z .table
+  pub in-c : z .c ≡ la
+  pub in-y : z .y ≡ lb
+  pub in-x : z .x ≡ lx
+  pub few : z .products + z .quotients < mostMade
+  pub gone : z .vanished ≤ z .products
+  pub own : belongs 0 kind ≡ true
+  pub allowed : AllowedInRow la lb lx z (kindOf kind) p q
+
+-- whether a row moved by more than the limit, after a record of kind k
+abbrev pub movesBy : Float → State → Kind → List Float → Bool
+movesBy limit z (opens t) x = false
+movesBy limit z (subtracts t) x = false
+movesBy limit z divides x = false
+movesBy limit z closes x = movesMore limit (getD x (z .target - 1) plusZero) (z .running)
+movesBy limit z closesPivot x = false
+movesBy limit z none x = false
+
+abbrev pub MovesStep : Float → State → Kind → List Float → Stepped → Type 0
+MovesStep limit z k x (On z′) = z′ .moved ≡ (z .moved || movesBy limit z k x)
+MovesStep limit z k x (Stop r) = Unit {0}

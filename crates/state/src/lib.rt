@@ -1,19 +1,22 @@
-// The state of a run, and one record on it: document 01, "Running"; document 02, A.1, A.5 and A.11.
+// The state of a run, and one record on it: document 01, "Running"; document 02, A.1, A.5, A.7 and A.11.
 ghost use mathlib.Core.Path.{_≡_};
 ghost use mathlib.Core.Bool.{cond};
+ghost use mathlib.Core.List.{map};
 ghost use Prim.Native.Nat.{_-_, _≤_, _<_};
 ghost use lib.Dec.{eqb};
-ghost use lib.ListN.{length, getD};
+ghost use lib.ListN.{length, getD, set};
 ghost use Rattle.model.specs.Arith.{plusZero, clean, quotient, vanishes};
 ghost use Rattle.model.specs.Formula.{less};
+ghost use Rattle.model.specs.Sweep.{movesMore};
 ghost use Rattle.model.specs.Check.{kindOf};
 ghost use Rattle.model.specs.Run as Run;
-ghost use Rattle.state.specs.States.{unopened, Sound, SoundStep, Free, Ready, stateOf, steppedOf, answered, opened, subtracted, dividedBy};
+ghost use Rattle.state.specs.States.{mostMade, unopened, whole, Sound, SoundStep, Free, Of, Ready, SweepReady, MovesStep};
+ghost use Rattle.state.specs.States.{stateOf, steppedOf, answered, opened, subtracted, dividedBy, settled, unmoved};
 use arith::Operation;
 use numbers::wide;
 
 // The running number, the table and number of its target, how many entries of C, Y and X are closed (of C those from 1 up to the highest
-// closed), the products and quotients made, and how many of the products vanished.
+// closed), the products and quotients made, how many of the products vanished, and whether a row of this sweep moved by more than the limit.
 pub struct State {
     pub running: f64,
     pub table: u32,
@@ -21,9 +24,10 @@ pub struct State {
     pub c: usize,
     pub y: usize,
     pub x: usize,
-    pub products: u32,
-    pub quotients: u32,
-    pub vanished: u32,
+    pub products: u64,
+    pub quotients: u64,
+    pub vanished: u64,
+    pub moved: bool,
 }
 
 // What a record leads to: the state after it, or the number of its refusal.
@@ -45,7 +49,7 @@ impl State {
 
     // The running number less a product, which is counted apart where it vanishes.
     fn subtract(mut self, a: f64, b: f64) -> Stepped
-        requires { ⌜ (self .products < 100000000) × (self .vanished ≤ self .products) ⌝ }
+        requires { ⌜ (self .products < mostMade) × (self .vanished ≤ self .products) ⌝ }
         ensures { λ r. ⌜ r ≡ answered (less (self .running) a b) (subtracted self (vanishes a b)) ⌝ }
     {
         match arith::less(self.running, a, b) {
@@ -67,7 +71,7 @@ impl State {
 
     // The running number over a divisor.
     fn divide(mut self, by: f64) -> Stepped
-        requires { ⌜ self .quotients < 100000000 ⌝ }
+        requires { ⌜ self .quotients < mostMade ⌝ }
         ensures { λ r. ⌜ r ≡ answered (quotient (self .running) by) (dividedBy self) ⌝ }
     {
         match arith::quotient(self.running, by) {
@@ -112,6 +116,29 @@ impl State {
         }
         self
     }
+
+    // The open row takes the running number, in the place of the sweep before's (document 02, A.7).
+    fn settle(mut self, limit: f64, x: &mut [f64]) -> State
+        requires { ⌜ Of (length (now x)) (self .target) ⌝ }
+        ensures { λ r. ⌜ (r ≡ settled self (movesMore limit (getD (now (x .entry)) (self .target - 1) plusZero) (self .running)))
+            × (now (x .exit) ≡ set (now (x .entry)) (self .target - 1) (self .running)) ⌝ }
+    {
+        let at = wide(self.target) - 1;
+        let new = self.running;
+        if arith::moves_more(limit, x[at], new) {
+            self.moved = true;
+        }
+        x[at] = new;
+        self
+    }
+
+    // The next sweep begins: none of its rows moved yet.
+    pub fn again(mut self) -> State
+        ensures { λ r. ⌜ r ≡ unmoved self ⌝ }
+    {
+        self.moved = false;
+        self
+    }
 }
 
 // The k-th value, from 1.
@@ -148,7 +175,7 @@ pub fn step(
     y: &mut [f64],
     x: &mut [f64],
 ) -> Stepped
-    requires { ⌜ Ready (length (now a)) (length (now b)) (length (now c)) (length (now y)) (length (now x)) z (kindOf kind) p q ⌝ }
+    requires { ⌜ Ready (length (now a)) (length (now b)) (length (now c)) (length (now y)) (length (now x)) z kind p q ⌝ }
     ensures { λ r. ⌜ steppedOf r (now (c .exit)) (now (y .exit)) (now (x .exit))
         ≡ Run.step (now (a .entry)) (now (b .entry)) limit (stateOf z (now (c .entry)) (now (y .entry)) (now (x .entry))) (kindOf kind) p q ⌝ }
     ensures { λ r. ⌜ SoundStep (length (now (c .entry))) (length (now (y .entry))) (length (now (x .entry))) r ⌝ }
@@ -173,6 +200,32 @@ pub fn step(
     }
 }
 
+// One record of a sweep: kinds 10, 11 and 12 do what 3, 6 and 7 do, with A in C's place and B in Y's, and 8 closes the row.
+pub fn sweep_step(
+    z: State,
+    kind: u32,
+    p: u32,
+    q: u32,
+    a: &[f64],
+    b: &[f64],
+    limit: f64,
+    x: &mut [f64],
+) -> Stepped
+    requires { ⌜ SweepReady (length (now a)) (length (now b)) (length (now x)) z kind p q ⌝ }
+    ensures { λ r. ⌜ steppedOf r (map clean (now (a .entry))) (map clean (now (b .entry))) (now (x .exit))
+        ≡ Run.step (now (a .entry)) (now (b .entry)) limit
+        (stateOf z (map clean (now (a .entry))) (map clean (now (b .entry))) (now (x .entry))) (kindOf kind) p q ⌝ }
+    ensures { λ r. ⌜ SoundStep (length (now (a .entry))) (length (now (b .entry))) (length (now (x .entry))) r ⌝ }
+    ensures { λ r. ⌜ MovesStep limit z (kindOf kind) (now (x .entry)) r ⌝ }
+{
+    match kind {
+        10 => Stepped::On(z.open(3, p, arith::read(entry(b, p)))),
+        11 => z.subtract(arith::read(entry(a, p)), entry(x, q)),
+        12 => z.divide(arith::read(entry(a, p))),
+        _ => Stepped::On(z.settle(limit, x)),
+    }
+}
+
 // Nothing is open or closed, and nothing made.
 pub fn fresh() -> State
     ensures { λ r. ⌜ r ≡ unopened ⌝ }
@@ -187,5 +240,17 @@ pub fn fresh() -> State
         products: 0,
         quotients: 0,
         vanished: 0,
+        moved: false,
     }
+}
+
+// The state before the first sweep, with n coefficients and N rows: A, B and X stand there whole.
+pub fn loaded(coefficients: usize, rows: usize) -> State
+    ensures { λ r. ⌜ r ≡ whole coefficients rows ⌝ }
+{
+    let mut z = fresh();
+    z.c = coefficients;
+    z.y = rows;
+    z.x = rows;
+    z
 }

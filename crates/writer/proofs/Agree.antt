@@ -1,9 +1,9 @@
 -- The records that the work numbers give are those of the formulas with these numbers.
 use Prim.Native.Nat.{ℕ, zero, suc, _+_, _-_, _≤_, _<_, min}
 use native.Mathlib.Omega.{arith}
-use mathlib.Core.Path.{_≡_, refl, sym, ap, ap₂, _∙_}
+use mathlib.Core.Path.{_≡_, refl, ap, ap₂, _∙_}
 use mathlib.Core.Bool.{Bool, true, false, cond, _&&_}
-use mathlib.Core.List.{List, [], _∷_, _++_, map, append-assoc, List·Memᴰ·head, List·Memᴰ·tail}
+use mathlib.Core.List.{List, [], _∷_, _++_, map, List·Memᴰ·head, List·Memᴰ·tail}
 use borrow.Author.Tests.{ne-eqb}
 use lib.Dec.{eqb}
 use Rattle.model.specs.Lists.{rising, falling, joined, kept}
@@ -12,7 +12,7 @@ use Rattle.model.specs.Fill.{Plan, position, held}
 use Rattle.model.specs.Formula.{Formula, C, Y, X}
 use Rattle.model.specs.Crout.{inner, lower, upper, forward, backward, batch, formulas}
 use Rattle.model.specs.Program.{Record, recordsOf}
-use Rattle.model.proofs.Lists.{Each, map-append, rising-each, falling-each}
+use Rattle.model.proofs.Lists.{Each, map-append, joined-append, rising-each, falling-each}
 use Rattle.model.proofs.Labels.{Inside}
 use Rattle.writer.specs.Worked.{numberAt, keptAt, formulaAt}
 use Rattle.writer.specs.Line.{placeAt, lineAt, yAt, xAt, batchAt, planRecords}
@@ -20,12 +20,7 @@ use Rattle.writer.specs.Line.{placeAt, lineAt, yAt, xAt, batchAt, planRe
 -- ---- lists
 
 module _ {A : Type 0} where
-  joined-append : (xs ys : List (List A)) → joined (xs ++ ys) ≡ joined xs ++ joined ys
-  unfolding joined
-  joined-append [] ys = refl
-  joined-append (x ∷ xs) ys = ap (λ l. x ++ l) (joined-append xs ys) ∙ sym (append-assoc x (joined xs) (joined ys))
-
-  kept-agree : (g h : ℕ → A) (t u : ℕ → Bool) (l : List ℕ) → Each (λ k. (g k ≡ h k) × (t k ≡ u k)) l → map g (kept t l) ≡ map h (kept u l)
+  pub kept-agree : (g h : ℕ → A) (t u : ℕ → Bool) (l : List ℕ) → Each (λ k. (g k ≡ h k) × (t k ≡ u k)) l → map g (kept t l) ≡ map h (kept u l)
   unfolding kept
   kept-agree g h t u [] each = refl
   kept-agree g h t u (k ∷ l) each =
@@ -73,7 +68,7 @@ all-falling f r a (suc d) high same =
 
 -- ---- formulas
 
-pair : ℕ → ℕ → ℕ × ℕ
+abbrev pub pair : ℕ → ℕ → ℕ × ℕ
 pair a b = (a, b)
 
 -- a formula for C, from what differs
@@ -84,7 +79,7 @@ inC target start products divisor pivot = record { table = C; target = target; s
 module _ (n : ℕ) (L : Plan) (number : ℕ → ℕ → ℕ) (work : List ℕ)
     (same : (i j : ℕ) → Inside n i j → (number i j ≡ numberAt n work i j) × (held n L i j ≡ keptAt n work i j)) where
   inner-agree : (i j m : ℕ) → Inside n i j → m ≡ min i j → inner n L number (held n L) i j m ≡ inner n [] (numberAt n work) (keptAt n work) i j (min i j)
-  unfolding inner pair
+  unfolding inner
   inner-agree i j m inside least =
       rw least (kept-agree _ _ _ _ _ (rising-each _ (λ h. h) 1 (min i j - 1) (λ h low below.
       let left = same i h (omega arith) in
@@ -111,14 +106,14 @@ module _ (n : ℕ) (L : Plan) (number : ℕ → ℕ → ℕ) (work : List ℕ)
       (same m j inside .0) (inner-agree m j m inside (omega arith)))
 
   forward-agree : (m : ℕ) → Inside n m m → recordsOf (forward n L number (held n L) m) ≡ yAt n work m
-  unfolding yAt forward pair
+  unfolding yAt forward
   forward-agree m inside =
       rw (same m m inside .0)
       (ap (λ products. recordsOf (record { table = Y; target = m; start = m; products = products; divisor = numberAt n work m m; pivot = false }))
       (kept-agree _ _ _ _ _ (rising-each _ (λ h. h) 1 (m - 1) (λ h low below. let left = same m h (omega arith) in (ap (λ p. pair p h) (left .0), left .1)))))
 
   backward-agree : (i : ℕ) → Inside n i i → recordsOf (backward n L number (held n L) i) ≡ xAt n work i
-  unfolding xAt backward pair
+  unfolding xAt backward
   backward-agree i inside =
       ap (λ products. recordsOf (record { table = X; target = i; start = i; products = products; divisor = 0; pivot = false }))
       (kept-agree _ _ _ _ _ (falling-each _ (λ h. h) n (n - i) (λ h high low. let right = same i h (omega arith) in (ap (λ p. pair p h) (right .0), right .1))))

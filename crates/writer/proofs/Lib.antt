@@ -5,3 +5,4 @@ pub mod Formulas
 pub mod Line
 pub mod Agree
 pub mod Whole
+pub mod Sweep

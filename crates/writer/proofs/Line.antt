@@ -17,7 +17,7 @@ use Rattle.model.specs.Program.{recordsOf}
 use Rattle.model.proofs.Labels.{Inside, label-range, label-turn, label-next}
 use Rattle.model.proofs.Plans.{plan-length}
 use Rattle.model.proofs.Pointer.{isNext, passedBy, position-next, planned-next, passed-next, passed-at-most}
-use Rattle.writer.specs.Worked.{numberAt, keptAt, innerAt, forwardAt, NoneBelow, formulaAt}
+use Rattle.writer.specs.Worked.{numberAt, keptAt, innerAt, productAt, NoneBelow, formulaAt}
 use Rattle.writer.specs.Written.{Room, Wrote}
 use Rattle.writer.specs.Line.{Ready, Before, divisorOf, placeAt, lineAt, lineRecords, yAt, batchAt}
 use Rattle.slots.specs.Batch.{rowOf, columnOf, firstOf}
@@ -57,8 +57,8 @@ module _ {n : ℕ} {L : Plan} {work inRows inColumns : List ℕ} (ready : Ready 
             (inr (ready .columns h j (omega arith) (omega (arith, ap (λ k. getD inRows k 0) same-row, ap (λ k. getD inColumns k 0) same-column))))
       ]
 
-  pub forward-none : (m a from : ℕ) → Inside n m m → a ≡ m → from ≡ getD inRows a 0 → NoneBelow (forwardAt n work m) from m
-  unfolding forwardAt
+  pub forward-none : (m a from : ℕ) → Inside n m m → a ≡ m → from ≡ getD inRows a 0 → NoneBelow (productAt n work 5 m) from m
+  unfolding productAt
   forward-none m a from inside same e h low below both =
       product-left-out 5 (numberAt n work m h) h (inl (ready .rows m h (omega arith) (omega (arith, ap (λ k. getD inRows k 0) same))))
 

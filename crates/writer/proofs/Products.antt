@@ -15,7 +15,7 @@ use Rattle.model.proofs.Labels.{Inside, label-range, label-right}
 use Rattle.model.proofs.Lines.{label-lower-step, label-upper-step}
 use Rattle.labels.proofs.Range.{inside-isPlace, labelNumber-is}
 use Rattle.writer.specs.Written.{Room, Wrote, productOf}
-use Rattle.writer.specs.Worked.{numberAt, Covers, innerAt, forwardAt, backwardAt, upTo, downTo, NoneBelow}
+use Rattle.writer.specs.Worked.{numberAt, Covers, innerAt, productAt, upTo, downTo, NoneBelow}
 use Rattle.writer.proofs.Written.{Writing, writing-starts, writing-room, writing-more, writing-ends, wrote-none}
 
 -- ---- labels
@@ -46,13 +46,9 @@ pub inner-at : {n : ℕ} {work : List ℕ} {i j h x y : ℕ} → Stands n work i
 unfolding innerAt
 inner-at left right = ap₂ (productOf 4) (number-at left) (number-at right)
 
-pub forward-at : {n : ℕ} {work : List ℕ} {m h x : ℕ} → Stands n work m h x → forwardAt n work m h ≡ productOf 5 (getD work (x - 1) 0) h
-unfolding forwardAt
-forward-at {h = h} left = ap (λ p. productOf 5 p h) (number-at left)
-
-pub backward-at : {n : ℕ} {work : List ℕ} {i h x : ℕ} → Stands n work i h x → backwardAt n work i h ≡ productOf 6 (getD work (x - 1) 0) h
-unfolding backwardAt
-backward-at {h = h} right = ap (λ p. productOf 6 p h) (number-at right)
+pub product-at : (kind : ℕ) {n : ℕ} {work : List ℕ} {i h x : ℕ} → Stands n work i h x → productAt n work kind i h ≡ productOf kind (getD work (x - 1) 0) h
+unfolding productAt
+product-at kind {h = h} here = ap (λ p. productOf kind p h) (number-at here)
 
 -- one to the left in a row, right of the diagonal
 pub label-left : (n i h x : ℕ) → x ≡ label n i h → i < h - 1 → x - 1 ≡ label n i (h - 1)

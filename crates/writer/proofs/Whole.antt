@@ -1,5 +1,5 @@
--- The whole program: from what the compiler has to the words of the plan's records.
-use Prim.Native.Nat.{ℕ, suc, _+_, _-_, _*_, _≤_, _<_}
+-- The whole program: record 0, the records after it and the last next; and what the compiler has for Crout's.
+use Prim.Native.Nat.{ℕ, suc, _+_, _-_, _*_, _≤_}
 use native.Mathlib.Nat.{mul-le-mul}
 use native.Mathlib.Decide.{decLe}
 use native.Mathlib.Omega.{arith}
@@ -9,7 +9,7 @@ use mathlib.Core.List.{List, [], _∷_, _++_}
 use borrow.Author.Tests.{ltb-true, ltb-false}
 use lib.Dec.{eqb·suc-zero}
 use lib.ListN.{length, drop, set, length-drop}
-use lib.Seq.{drop-drop, sets-eq}
+use lib.Seq.{drop-drop}
 use Rattle.model.specs.Label.{label}
 use Rattle.model.specs.Fill.{Plan, position, held, recordCount}
 use Rattle.model.specs.Program.{Record, chained, program}
@@ -21,8 +21,8 @@ use Rattle.model.proofs.Bounds.{records-at-most}
 use Rattle.writer.specs.Prepared.{Prepared}
 use Rattle.writer.specs.Written.{linked, pasted, Room, Wrote}
 use Rattle.writer.specs.Worked.{numberAt, keptAt}
-use Rattle.writer.specs.Line.{Ready, batchRecords, solutionRecords, planRecords}
-use Rattle.writer.proofs.Written.{linked-length, wrote-length, wrote-more, room-front, room-back}
+use Rattle.writer.specs.Line.{Ready, planRecords}
+use Rattle.writer.proofs.Written.{linked-length, wrote-length}
 
 -- ---- the last next
 
@@ -36,13 +36,42 @@ ended k (r ∷ s ∷ rs) rest i e =
 
 -- ---- record 0, the records after it, and the last next
 
-module _ (n : ℕ) (L : Plan) (words : List ℕ) (s : ℕ) where
-  -- the words once record 0 is set
-  abbrev pub headed : List ℕ
-  headed = set (set (set (set words 0 n) 1 (length L)) 2 s) 3 1
+-- there are some records, and few enough; the plan is short enough; and the words have room for the program
+pub record Counted (L : Plan) (records : List Record) (words : List ℕ) : Type 0 where
+  pub some : 1 ≤ length records
+  pub few : suc (length records) ≤ 100000000
+  pub short : length L ≤ 360000
+  pub fits : 4 * suc (length records) ≤ length words
 
-  headed-is : 4 ≤ length words → headed ≡ n ∷ length L ∷ s ∷ 1 ∷ drop 4 words
-  headed-is long = sets-eq (n ∷ length L ∷ s ∷ 1 ∷ []) words 0 long
+module _ {L : Plan} {records : List Record} {words headed : List ℕ} (n s : ℕ) (counted : Counted L records words)
+    (head : headed ≡ n ∷ length L ∷ s ∷ 1 ∷ drop 4 words) where
+  headed-length : length headed ≡ length words
+  headed-length = omega (arith, counted, ap length head, length-drop 4 words)
+
+  pub headed-room : Room 0 1 records headed
+  headed-room = omega (arith, counted, headed-length)
+
+  module _ {ws : List ℕ} {end : ℕ} (wrote : Wrote 0 1 records headed ws end) where
+    -- the last next is one of the words
+    pub last-inside : (1 ≤ end) × (4 * end ≤ length ws)
+    last-inside = omega (arith, counted, headed-length, wrote-length headed-room wrote, wrote .next-is)
+
+    whole : ws ≡ n ∷ length L ∷ s ∷ 1 ∷ (linked 1 records ++ drop (4 * suc (length records)) words)
+    unfolding pasted
+    whole =
+        let linked-count = linked-length 1 records in
+        let past : 4 + length (linked 1 records) ≡ suc (suc (suc (suc (4 * length records)))) = omega arith in
+        let all : 4 * suc (length records) ≡ 4 + 4 * length records = omega arith in
+        wrote .words ∙ rw (head, past, all)
+        (ap (λ rest. n ∷ length L ∷ s ∷ 1 ∷ (linked 1 records ++ rest)) (drop-drop (4 * length records) 4 words))
+
+    -- The headline: with the last next 0 the words are the program's.
+    pub program-written : {ended : List ℕ} → ended ≡ set ws (4 * end - 1) 0 → ended ≡ program n (length L) s records ++ drop (4 * suc (length records)) words
+    program-written e =
+        let on : 4 * end - 1 ≡ suc (suc (suc (suc (4 * length records - 1)))) = omega (arith, counted, wrote .next-is) in
+        e ∙ rw (whole, on) (ap (λ l. n ∷ length L ∷ s ∷ 1 ∷ l) (ended 1 records _ (4 * length records - 1) (omega (arith, counted))))
+
+-- ---- Crout's program
 
 module _ {n : ℕ} {L : Plan} {work inRows inColumns words : List ℕ} (p : Prepared n L work inRows inColumns words) where
   not-kept : (i j : ℕ) → Inside n i j → held n L i j ≡ false → numberAt n work i j ≡ 0
@@ -69,52 +98,9 @@ module _ {n : ℕ} {L : Plan} {work inRows inColumns words : List ℕ} (p : Prep
         planned = none-planned;
       }
 
-  abbrev records : List Record
-  records = planRecords n L work
-
-  -- there are some records, and few enough; and the plan is short enough
-  pub counted : (4 ≤ length records) × (suc (length records) ≡ recordCount n L) × (recordCount n L ≤ 100000000) × (length L ≤ 360000)
+  pub plan-counted : Counted L (planRecords n L work) words
   unfolding recordCount
-  counted =
+  plan-counted =
       let range = within-range n 600 (p .order) in
       let square = mul-le-mul {n₂ = 600} {m₂ = 600} (range .1) (range .1) in
-      omega (arith, p .records, records-at-most n L (range .1), plan-length n L (p .rises))
-
-  -- record 0 has room
-  pub long : 4 ≤ length words
-  long = omega (arith, counted, p .fits)
-
-  module _ (s : ℕ) where
-    headed-room : Room 0 1 records (headed n L words s)
-    headed-room = omega (arith, counted, p .fits, ap length (headed-is n L words s long), length-drop 4 words)
-
-    pub batch-room : Room 0 1 (batchRecords n L work) (headed n L words s)
-    batch-room = room-front (solutionRecords n work) headed-room
-
-    module _ {ws : List ℕ} {k : ℕ} (batches : Wrote 0 1 (batchRecords n L work) (headed n L words s) ws k) where
-      pub solution-room : Room 0 k (solutionRecords n work) ws
-      solution-room = room-back headed-room batches
-
-      module _ {ws′ : List ℕ} {end : ℕ} (solution : Wrote 0 k (solutionRecords n work) ws ws′ end) (last : ℕ) (place : last ≡ 4 * end - 1) where
-        both : Wrote 0 1 records (headed n L words s) ws′ end
-        both = wrote-more headed-room batches solution
-
-        pub last-inside : (length ws′ ≡ length words) × (last < length ws′)
-        last-inside =
-            let head = ap length (headed-is n L words s long) in
-            omega (arith, counted, p .fits, wrote-length headed-room both, both .next-is, head, length-drop 4 words)
-
-        whole : ws′ ≡ n ∷ length L ∷ s ∷ 1 ∷ (linked 1 records ++ drop (4 * recordCount n L) words)
-        unfolding pasted
-        whole =
-            let linked-count = linked-length 1 records in
-            let past : 4 + length (linked 1 records) ≡ suc (suc (suc (suc (4 * length records)))) = omega arith in
-            let all : 4 * recordCount n L ≡ 4 + 4 * length records = omega (arith, counted) in
-            both .words ∙ rw (headed-is n L words s long, past, all)
-            (ap (λ rest. n ∷ length L ∷ s ∷ 1 ∷ (linked 1 records ++ rest)) (drop-drop (4 * length records) 4 words))
-
-        -- The headline: with the last next 0 the words are the program's.
-        pub program-written : set ws′ last 0 ≡ program n (length L) s records ++ drop (4 * recordCount n L) words
-        program-written =
-            let on : last ≡ suc (suc (suc (suc (4 * length records - 1)))) = omega (arith, counted, both .next-is) in
-            rw (whole, on) (ap (λ l. n ∷ length L ∷ s ∷ 1 ∷ l) (ended 1 records _ (4 * length records - 1) (omega (arith, counted))))
+      omega (arith, p .records, p .fits, records-at-most n L (range .1), plan-length n L (p .rises))

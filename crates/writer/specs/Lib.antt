@@ -3,3 +3,4 @@ pub mod Written
 pub mod Worked
 pub mod Line
 pub mod Prepared
+pub mod Sweep

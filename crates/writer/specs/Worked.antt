@@ -25,15 +25,13 @@ pub record Covers (n : ℕ) (work : List ℕ) : Type 0 where
   pub high : n ≤ 600
   pub long : n * n ≤ length work
 
--- the record of the product l(i,h) u(h,j), of l(m,h) y(h) and of u(i,h) x(h), if it is kept
+-- the record of the product l(i,h) u(h,j), if it is kept
 unfoldable pub innerAt : ℕ → List ℕ → ℕ → ℕ → ℕ → List Record
 innerAt n work i j h = productOf 4 (numberAt n work i h) (numberAt n work h j)
 
-unfoldable pub forwardAt : ℕ → List ℕ → ℕ → ℕ → List Record
-forwardAt n work m h = productOf 5 (numberAt n work m h) h
-
-unfoldable pub backwardAt : ℕ → List ℕ → ℕ → ℕ → List Record
-backwardAt n work i h = productOf 6 (numberAt n work i h) h
+-- and of that of place (i, h) with entry h of another table: of l(i,h) y(h) by kind 5, of u(i,h) x(h) by 6, of a(i,h) x(h) by 11
+unfoldable pub productAt : ℕ → List ℕ → ℕ → ℕ → ℕ → List Record
+productAt n work kind i h = productOf kind (numberAt n work i h) h
 
 -- the records for h = 1..m-1, and for h = n..i+1
 abbrev pub upTo : (ℕ → List Record) → ℕ → List Record

@@ -36,5 +36,5 @@ abbrev pub productOf : ℕ → ℕ → ℕ → List Record
 productOf kind p q = cond (ltb 0 p && ltb 0 q) (rec kind p q ∷ []) []
 
 -- the record of the division, if there is a divisor
-abbrev pub quotientOf : ℕ → List Record
-quotientOf d = cond (eqb d 0) [] (rec 7 d 0 ∷ [])
+abbrev pub quotientOf : ℕ → ℕ → List Record
+quotientOf kind d = cond (eqb d 0) [] (rec kind d 0 ∷ [])

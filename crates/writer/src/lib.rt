@@ -1,4 +1,6 @@
 // The writer: the records of a plan's formulas, from its work numbers. Document 01, "Records".
+pub mod rows;
+
 use numbers::larger;
 use numbers::smaller;
 use numbers::wide;
@@ -10,15 +12,15 @@ ghost use mathlib.Core.Path.{_≡_};
 ghost use mathlib.Core.Bool.{cond};
 ghost use mathlib.Core.List.{_∷_, [], _++_};
 ghost use lib.Dec.{eqb};
-ghost use Prim.Native.Nat.{suc, _*_, _≤_, min};
-ghost use lib.ListN.{length, drop};
+ghost use Prim.Native.Nat.{suc, _-_, _*_, _≤_, min};
+ghost use lib.ListN.{length, drop, set};
 ghost use Rattle.model.specs.Fill.{recordCount};
 ghost use Rattle.model.specs.Crout.{forward, backward};
 ghost use Rattle.model.specs.Program.{rec, recordsOf, program};
 ghost use Rattle.model.proofs.Labels.{Inside};
 ghost use Rattle.model.proofs.Pointer.{isNext, passedBy};
 ghost use Rattle.writer.specs.Written.{Room, Wrote, productOf, quotientOf};
-ghost use Rattle.writer.specs.Worked.{numberAt, keptAt, Covers, innerAt, forwardAt, backwardAt, upTo, downTo, NoneBelow, formulaAt};
+ghost use Rattle.writer.specs.Worked.{numberAt, keptAt, Covers, innerAt, productAt, upTo, downTo, NoneBelow, formulaAt};
 ghost use Rattle.writer.specs.Prepared.{Prepared};
 ghost use Rattle.writer.specs.Line.{Ready, Before, divisorOf, placeAt, lineRecords, batchAt, batchRecords, solutionRecords, planRecords};
 ghost use Rattle.slots.specs.Batch.{rowOf, columnOf, firstOf};
@@ -54,12 +56,28 @@ pub fn write(
     ensures { λ r. ⌜ now (words .exit) ≡ program n (length (now (plan .entry))) slots (planRecords n (now (plan .entry)) (now (work .entry)))
         ++ drop (4 * recordCount n (now (plan .entry))) (now (words .entry)) ⌝ }
 {
+    head(n, plan, words, slots);
+    let first = write_batches(n, plan, work, rows, columns, words);
+    let end = write_solution(n, work, words, first);
+    finish(words, end);
+}
+
+// Record 0.
+fn head(n: u32, plan: &[u32], words: &mut [u32], slots: u32)
+    requires { ⌜ (length (now plan) ≤ 360000) × (4 ≤ length (now words)) ⌝ }
+    ensures { λ r. ⌜ now (words .exit) ≡ n ∷ length (now (plan .entry)) ∷ slots ∷ 1 ∷ drop 4 (now (words .entry)) ⌝ }
+{
     words[0] = n;
     words[1] = plan.len() as u32;
     words[2] = slots;
     words[3] = 1;
-    let first = write_batches(n, plan, work, rows, columns, words);
-    let end = write_solution(n, work, words, first);
+}
+
+// The chain ends with the record before end.
+fn finish(words: &mut [u32], end: u32)
+    requires { ⌜ (1 ≤ end) × (4 * end ≤ length (now words)) ⌝ }
+    ensures { λ r. ⌜ now (words .exit) ≡ set (now (words .entry)) (4 * end - 1) 0 ⌝ }
+{
     let last = 4 * wide(end) - 1;
     words[last] = 0;
 }
@@ -258,7 +276,7 @@ fn write_place(n: u32, work: &[u32], rest: &mut [u32], k: u32, place: Place, fro
     let j = place.column;
     let opened = put(rest, k, k, 1, place.position, place.slot);
     let reduced = write_inner(n, work, rest, k, opened, i, j, from);
-    let divided = divide(rest, k, reduced, place.divisor);
+    let divided = divide(rest, k, reduced, 7, place.divisor);
     put(rest, k, divided, closing(i, j), 0, 0)
 }
 
@@ -282,14 +300,14 @@ fn write_forward(
     requires { ⌜ Covers n (now work) ⌝ }
     requires { ⌜ Inside n m m ⌝ }
     requires { ⌜ pivot ≡ numberAt n (now work) m m ⌝ }
-    requires { ⌜ NoneBelow (forwardAt n (now work) m) from m ⌝ }
+    requires { ⌜ NoneBelow (productAt n (now work) 5 m) from m ⌝ }
     requires { ⌜ Room k k (recordsOf (forward n [] (numberAt n (now work)) (keptAt n (now work)) m)) (now rest) ⌝ }
     ensures { λ r. ⌜ Wrote k k (recordsOf (forward n [] (numberAt n (now (work .entry))) (keptAt n (now (work .entry))) m))
         (now (rest .entry)) (now (rest .exit)) r ⌝ }
 {
     let opened = put(rest, k, k, 2, m, 0);
-    let reduced = write_left(n, work, rest, k, opened, m, from);
-    let divided = divide(rest, k, reduced, pivot);
+    let reduced = write_left(n, work, rest, k, opened, 5, m, from);
+    let divided = divide(rest, k, reduced, 7, pivot);
     put(rest, k, divided, 8, 0, 0)
 }
 
@@ -339,19 +357,29 @@ fn write_inner(
     next
 }
 
-// The products l(m,h) y(h), h rising to below m; none is kept for an h below from.
-fn write_left(n: u32, work: &[u32], rest: &mut [u32], first: u32, k: u32, m: u32, from: u32) -> u32
+// The products of row m's entries left of the diagonal, h rising to below m: l(m,h) y(h) by kind 5, a(m,h) x(h) by kind 11. None is kept for an h
+// below from.
+fn write_left(
+    n: u32,
+    work: &[u32],
+    rest: &mut [u32],
+    first: u32,
+    k: u32,
+    kind: u32,
+    m: u32,
+    from: u32,
+) -> u32
     requires { ⌜ Covers n (now work) ⌝ }
     requires { ⌜ Inside n m m ⌝ }
-    requires { ⌜ NoneBelow (forwardAt n (now work) m) from m ⌝ }
-    requires { ⌜ Room first k (upTo (forwardAt n (now work) m) m) (now rest) ⌝ }
-    ensures { λ r. ⌜ Wrote first k (upTo (forwardAt n (now (work .entry)) m) m) (now (rest .entry)) (now (rest .exit)) r ⌝ }
+    requires { ⌜ NoneBelow (productAt n (now work) kind m) from m ⌝ }
+    requires { ⌜ Room first k (upTo (productAt n (now work) kind m) m) (now rest) ⌝ }
+    ensures { λ r. ⌜ Wrote first k (upTo (productAt n (now (work .entry)) kind m) m) (now (rest .entry)) (now (rest .exit)) r ⌝ }
 {
     let mut next = k;
     let mut h = larger(1, from);
     let mut across = wide(labels::label(n, m, h));
     while h < m {
-        next = subtract(rest, first, next, 5, work[across - 1], h);
+        next = subtract(rest, first, next, kind, work[across - 1], h);
         across += 2 * wide(n - h);
         h += 1;
     }
@@ -362,8 +390,8 @@ fn write_left(n: u32, work: &[u32], rest: &mut [u32], first: u32, k: u32, m: u32
 fn write_right(n: u32, work: &[u32], rest: &mut [u32], first: u32, k: u32, i: u32) -> u32
     requires { ⌜ Covers n (now work) ⌝ }
     requires { ⌜ Inside n i i ⌝ }
-    requires { ⌜ Room first k (downTo (backwardAt n (now work) i) n i) (now rest) ⌝ }
-    ensures { λ r. ⌜ Wrote first k (downTo (backwardAt n (now (work .entry)) i) n i) (now (rest .entry)) (now (rest .exit)) r ⌝ }
+    requires { ⌜ Room first k (downTo (productAt n (now work) 6 i) n i) (now rest) ⌝ }
+    ensures { λ r. ⌜ Wrote first k (downTo (productAt n (now (work .entry)) 6 i) n i) (now (rest .entry)) (now (rest .exit)) r ⌝ }
 {
     let mut next = k;
     let mut h = n;
@@ -391,14 +419,14 @@ fn subtract(words: &mut [u32], first: u32, k: u32, kind: u32, p: u32, q: u32) ->
 }
 
 // The division, unless the divisor is 0.
-fn divide(words: &mut [u32], first: u32, k: u32, divisor: u32) -> u32
-    requires { ⌜ Room first k (quotientOf divisor) (now words) ⌝ }
-    ensures { λ r. ⌜ Wrote first k (quotientOf divisor) (now (words .entry)) (now (words .exit)) r ⌝ }
+fn divide(words: &mut [u32], first: u32, k: u32, kind: u32, divisor: u32) -> u32
+    requires { ⌜ Room first k (quotientOf kind divisor) (now words) ⌝ }
+    ensures { λ r. ⌜ Wrote first k (quotientOf kind divisor) (now (words .entry)) (now (words .exit)) r ⌝ }
 {
     if divisor == 0 {
         return k;
     }
-    put(words, first, k, 7, divisor, 0)
+    put(words, first, k, kind, divisor, 0)
 }
 
 // Record k of words, whose first record has index first; its next is the following index, which is the answer.

@@ -98,7 +98,7 @@ impl From<Result<u64, Refusal>> for Answer {
 impl From<Outcome> for Answer<4> {
     fn from(read: Outcome) -> Self {
         match read {
-            Outcome::Solved { products, quotients, vanished } => Self::fine([products, quotients, vanished, 0]),
+            Outcome::Solved { products, quotients, vanished, sweeps } => Self::fine([products, quotients, vanished, sweeps]),
             Outcome::Stopped { number, record, table, target } => Self::stopped(number, record, [table, target, 0, 0]),
             Outcome::Refused { number, detail } => Self::refused(number, detail),
         }

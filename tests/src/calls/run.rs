@@ -14,7 +14,7 @@ pub fn run(words: &[u32], a: &[f64], b: &[f64], c: &mut [f64], y: &mut [f64], x:
     call!(crout_run, [], [words, a, b], [], [c, y, x])
 }
 
-/// Runs a program with a limit; out is products, quotients, products that vanished, 0, or after 16 and 17 the table, the target's
+/// Runs a program with a limit; out is products, quotients, products that vanished, sweeps, or after 16 and 17 the table, the target's
 /// number, 0, 0.
 pub fn run_limit(words: &[u32], a: &[f64], b: &[f64], limit: f64, c: &mut [f64], y: &mut [f64], x: &mut [f64]) -> Answer<4> {
     call!(crout_run_limit, [], [words, a, b], [limit], [c, y, x])

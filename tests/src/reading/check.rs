@@ -1,10 +1,10 @@
 //! Checks 7 to 13: a program's words, followed along its chain. A slot may be opened again (document 02, A.11), so which of them have
-//! been closed is kept one by one.
+//! been closed is kept one by one. A program without slots is one of sweeps (A.7), which has kinds of its own.
 
 use super::Verdict;
 
 struct Progress {
-    /// 0 for none, else the open table: 1 for C, 2 for Y, 3 for X.
+    /// 0 for none, else the open table: 1 for C, 2 for Y, 3 for X, which is the only one of a sweep.
     open: u32,
     /// The slot opened last.
     slot: u32,
@@ -41,11 +41,49 @@ impl Progress {
     }
 
     fn complete(&self, head: &Head) -> bool {
-        self.open == 0 && self.closed[1..].iter().all(|&closed| closed) && self.y == head.n && self.x == head.n
+        let y = if head.slots == 0 { 0 } else { head.n };
+        self.open == 0 && self.closed[1..].iter().all(|&closed| closed) && self.y == y && self.x == head.n
     }
 
     /// 10 to 12 for one record.
-    fn step(&mut self, head: &Head, [kind, p, q]: [u32; 3]) -> Result<(), u32> {
+    fn step(&mut self, head: &Head, record: [u32; 3]) -> Result<(), u32> {
+        if head.slots == 0 { self.step_of_sweep(head, record) } else { self.step_of_crout(head, record) }
+    }
+
+    /// Rows open as 1, 2, .. N, and their products may read every entry of X, also the open one's of the sweep before.
+    fn step_of_sweep(&mut self, head: &Head, [kind, p, q]: [u32; 3]) -> Result<(), u32> {
+        let (opens, unused) = match kind {
+            8 => (false, p != 0 || q != 0),
+            10 => (true, q != 0),
+            11 => (false, false),
+            12 => (false, q != 0),
+            _ => return Err(10),
+        };
+        if unused {
+            return Err(10);
+        }
+        if opens != (self.open == 0) {
+            return Err(11);
+        }
+        let (coefficients, entries) = (1..=head.plan, 1..=head.n);
+        let right = match kind {
+            10 => entries.contains(&p) && p == self.x + 1,
+            11 => coefficients.contains(&p) && entries.contains(&q),
+            12 => coefficients.contains(&p),
+            _ => true,
+        };
+        if !right {
+            return Err(12);
+        }
+        match kind {
+            10 => self.open = 3,
+            8 => self.close(),
+            _ => {}
+        }
+        Ok(())
+    }
+
+    fn step_of_crout(&mut self, head: &Head, [kind, p, q]: [u32; 3]) -> Result<(), u32> {
         let unused = match kind {
             1 | 4..=6 => false,
             2 | 3 | 7 => q != 0,
@@ -100,7 +138,7 @@ pub fn check_with(len: usize, word: impl Fn(usize) -> u32) -> Verdict {
     }
     let head = Head { n: word(0), plan: word(1), slots: word(2) };
     let square = u64::from(head.n) * u64::from(head.n);
-    if !(1..=600).contains(&head.n) || u64::from(head.plan) > square || head.slots < 1 || u64::from(head.slots) > square {
+    if !(1..=600).contains(&head.n) || u64::from(head.plan) > square || u64::from(head.slots) > square {
         return Err((8, 0));
     }
     let mut progress = Progress::new(head.slots);

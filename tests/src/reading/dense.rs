@@ -48,9 +48,9 @@ pub fn read(value: f64) -> f64 {
     if value == 0.0 { 0.0 } else { value }
 }
 
-/// Whether a pivot is refused.
-pub fn is_small(pivot: f64, limit: f64) -> bool {
-    pivot.abs() <= limit
+/// Whether a pivot is refused, or an entry that moves by so much has settled.
+pub fn is_small(value: f64, limit: f64) -> bool {
+    value.abs() <= limit
 }
 
 /// Whether two factors that aren't zero give zero.

@@ -7,6 +7,7 @@ pub mod file;
 pub mod labels;
 pub mod plan;
 pub mod run;
+pub mod sweep;
 
 /// A refusal's number and its detail.
 pub type Refusal = (u32, u64);

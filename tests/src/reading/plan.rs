@@ -96,8 +96,8 @@ fn judged(n: u32, plan: &[u32]) -> Verdict {
     Ok(())
 }
 
-/// The compiler's answer, and what it leaves in the lent slices.
-pub fn compile(n: u32, plan: &[u32], work: &mut [u32], words: &mut [u32]) -> Result<Written, Refusal> {
+/// Checks 1 to 4, of which 2 wants a work number for each place.
+pub(super) fn orderly(n: u32, plan: &[u32], work: &[u32]) -> Verdict {
     if !(1..=600).contains(&n) {
         return Err((1, 0));
     }
@@ -105,7 +105,13 @@ pub fn compile(n: u32, plan: &[u32], work: &mut [u32], words: &mut [u32]) -> Res
     if work.len() < square {
         return Err((2, square as u64));
     }
-    judged(n, plan)?;
+    judged(n, plan)
+}
+
+/// The compiler's answer, and what it leaves in the lent slices.
+pub fn compile(n: u32, plan: &[u32], work: &mut [u32], words: &mut [u32]) -> Result<Written, Refusal> {
+    orderly(n, plan, work)?;
+    let square = (n * n) as usize;
     let held = Held::of(n, plan);
     if let Some(m) = held.missing() {
         work[..square].fill(0);

@@ -1,8 +1,9 @@
 //! The run of a program: 7 to 13, 14, 15, 21, then its records, 16 and 17. A slot that is opened again keeps its value until it is closed
-//! again (document 02, A.11).
+//! again (document 02, A.11). A program without slots makes sweeps (A.7), which `sweep` reads.
 
 use super::check::check;
 use super::dense::{difference, is_small, product, quotient, read, vanishes};
+use super::sweep;
 
 #[derive(Clone, Copy, Debug, PartialEq, Eq)]
 pub enum Outcome {
@@ -10,18 +11,13 @@ pub enum Outcome {
         products: u64,
         quotients: u64,
         vanished: u64,
+        /// 0 for Crout.
+        sweeps: u64,
     },
     /// 16 or 17, the record, and the table (1 for C, 2 for Y, 3 for X) and number of the target.
-    Stopped {
-        number: u32,
-        record: u64,
-        table: u64,
-        target: u64,
-    },
-    Refused {
-        number: u32,
-        detail: u64,
-    },
+    Stopped { number: u32, record: u64, table: u64, target: u64 },
+    /// Any other refusal. 27 alone has changed a table: X holds the last sweep.
+    Refused { number: u32, detail: u64 },
 }
 
 fn not_finite(values: &[f64]) -> Option<u64> {
@@ -78,7 +74,7 @@ pub fn run(words: &[u32], a: &[f64], b: &[f64], limit: f64, c: &mut [f64], y: &m
         return Outcome::Refused { number, detail };
     }
     let [n, plan, slots] = [words[0] as usize, words[1] as usize, words[2] as usize];
-    if [a.len(), b.len(), c.len(), y.len(), x.len()] != [plan, n, slots, n, n] {
+    if [a.len(), b.len(), c.len(), y.len(), x.len()] != [plan, n, slots, if slots == 0 { 0 } else { n }, n] {
         return Outcome::Refused { number: 14, detail: 0 };
     }
     if let Some(detail) = not_finite(a).or_else(|| not_finite(b)) {
@@ -87,8 +83,11 @@ pub fn run(words: &[u32], a: &[f64], b: &[f64], limit: f64, c: &mut [f64], y: &m
     if !(limit.is_finite() && limit >= 0.0) {
         return Outcome::Refused { number: 21, detail: 0 };
     }
+    if slots == 0 {
+        return sweep::run(words, a, b, limit, x);
+    }
     match records(words, a, b, limit, c, y, x) {
-        Ok([products, quotients, vanished]) => Outcome::Solved { products, quotients, vanished },
+        Ok([products, quotients, vanished]) => Outcome::Solved { products, quotients, vanished, sweeps: 0 },
         Err((number, record, table, target)) => {
             c.fill(0.0);
             y.fill(0.0);

@@ -22,30 +22,17 @@ mul-if2 : tie.Need-mul-if2
 mul-if2 c = omega (arith, square-small c)
 
 mul-result : tie.Need-mul-result
-mul-result c = omega (arith, square-small (c .before .before .before .before))
+mul-result c = omega (arith, square-small (c .before .before))
 
 returns : tie.Need-returns
 returns c =
-    rw (
-      sym (c .before .before .before .before .before .before .within .ensures) ∙ c .before .before .before .before .before .if1 .taken,
-      le-leb _ _ (c .before .before .before .if2 .taken),
-      le-leb _ _ (c .before .if3 .taken),
-    )
+    rw (sym (c .before .before .before .before .within .ensures) ∙ c .before .before .before .if1 .taken, le-leb _ _ (c .before .if2 .taken))
 
 returns-2 : tie.Need-returns-2
-returns-2 c =
-    rw (
-      sym (c .before .before .before .before .before .within .ensures) ∙ c .before .before .before .before .if1 .taken,
-      le-leb _ _ (c .before .before .if2 .taken),
-      lt-leb _ _ (c .if3 .left),
-    )
+returns-2 c = rw (sym (c .before .before .before .within .ensures) ∙ c .before .before .if1 .taken, lt-leb _ _ (c .if2 .left))
 
 returns-3 : tie.Need-returns-3
-returns-3 c = rw (sym (c .before .before .before .within .ensures) ∙ c .before .before .if1 .taken, lt-leb _ _ (c .if2 .left))
-
-returns-4 : tie.Need-returns-4
-returns-4 c = rw (sym (c .before .within .ensures), c .if1 .left)
+returns-3 c = rw (sym (c .before .within .ensures), c .if1 .left)
 
 pub head-fits-spec : {M : Type 1} → statement M
-head-fits-spec =
-    tie.close (tie.spec within-requires mul-if2 mul-result returns returns-2 returns-3 returns-4)
+head-fits-spec = tie.close (tie.spec within-requires mul-if2 mul-result returns returns-2 returns-3)

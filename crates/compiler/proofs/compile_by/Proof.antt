@@ -1,7 +1,6 @@
 -- `compiler::compile_by` answers and leaves what the model says: each refusal by the first check that fails.
-use Prim.Native.Nat.{_+_, _*_, _≤_}
+use Prim.Native.Nat.{_≤_}
 use native.Mathlib.Omega.{arith}
-use native.Mathlib.Nat.{mul-le-mul}
 use mathlib.Core.Path.{_≡_, sym, ap, _∙_}
 use mathlib.Core.Bool.{true}
 use denote.Ref.{now}
@@ -14,7 +13,6 @@ use Rattle.model.proofs.Within.{within-range}
 use Rattle.model.proofs.Compiles.{ends-order, ends-labels}
 use Rattle.compiler.specs.Compilation.{compilerOf}
 use Rattle.compiler.specs.Judge.{labelsOf}
-use Rattle.compiler.proofs.Wanted.{wanted-is, wanted-fits}
 use Rattle.compiler.proofs.Ending.{room-ends}
 use Rattle.compiler.proofs.compile_by.Statement.{statement}
 use Rattle.compiler.proofs.compile_by.Tie as tie
@@ -32,15 +30,8 @@ ordered c = c .before .before .before
 in-order : (k : tie.Else1) → isOrder (entry k .args .n) ≡ true
 in-order k = sym (k .before .within .ensures) ∙ not-false _ (k .if1 .left)
 
-square-fits : (k : tie.Else1) → let n = entry k .args .n in n * n ≤ 360000
-square-fits k = let n = within-range _ 600 (in-order k) .1 in mul-le-mul {n₂ = 600} {m₂ = 600} n n
-
--- what check 2 wants
-wants : (k : tie.After-spare) → let a = entry (k .before) .args in a .n * a .n + k .spare .result ≡ wanted (compilerOf (a .again)) (a .n)
-wants k = let a = entry (k .before) .args in ap (λ past. a .n * a .n + past) (k .spare .ensures) ∙ wanted-is (compilerOf (a .again)) (a .n)
-
-roomy : (k : Sized) → let a = entry (ordered k) .args in wanted (compilerOf (a .again)) (a .n) ≤ length (now (a .work))
-roomy k = omega (arith, wants (k .before .before))
+roomy : (k : Sized) → let a = entry (ordered k) .args in wanted (compilerOf (a .method)) (a .n) ≤ length (now (a .work))
+roomy k = omega (arith, k .before .before .wanted .ensures)
 
 within-requires : tie.Need-within-requires
 within-requires c κs = search needs
@@ -48,23 +39,17 @@ within-requires c κs = search needs
 returns : tie.Need-returns
 returns c = ends-order _ _ _ _ _ (sym (c .before .within .ensures) ∙ not-true _ (c .if1 .taken))
 
-mul-wanted : tie.Need-mul-wanted
-mul-wanted c = omega (arith, square-fits c)
-
-spare-requires : tie.Need-spare-requires
-spare-requires c κs = within-range _ 600 (in-order c) .1
-
-add-wanted : tie.Need-add-wanted
-add-wanted c = let a = entry (c .before) .args in omega (arith, wants c, wanted-fits (compilerOf (a .again)) (a .n) (square-fits (c .before)))
+wanted-requires : tie.Need-wanted-requires
+wanted-requires c κs = within-range _ 600 (in-order c) .1
 
 wide-requires : tie.Need-wide-requires
 wide-requires c κs = search needs
 
-cast-t15 : tie.Need-cast-t15
-cast-t15 c = search needs
+cast-t13 : tie.Need-cast-t13
+cast-t13 c = search needs
 
 returns-2 : tie.Need-returns-2
-returns-2 c = let k = c .before .before in room-ends (wants k) (in-order (k .before)) (omega arith)
+returns-2 c = let k = c .before .before in room-ends (k .wanted .ensures) (in-order (k .before)) (omega arith)
 
 judge-requires : tie.Need-judge-requires
 judge-requires c κs = within-range _ 600 (in-order (ordered c)) .1
@@ -102,11 +87,9 @@ compile-by-spec =
     (tie.spec
     within-requires
     returns
-    mul-wanted
-    spare-requires
-    add-wanted
+    wanted-requires
     wide-requires
-    cast-t15
+    cast-t13
     returns-2
     judge-requires
     enum-known-number

@@ -8,9 +8,9 @@ use lib.ListN.{length, length-drop}
 use borrow.Author.Needs.{needs}
 use Rattle.model.specs.Compile.{wanted, spare}
 use Rattle.model.proofs.Within.{within-range}
-use Rattle.compiler.specs.Compilation.{compilerOf}
+use Rattle.compiler.specs.Compilation.{croutOf}
 use Rattle.compiler.proofs.Parts.{whole-part}
-use Rattle.compiler.proofs.Wanted.{wanted-is}
+use Rattle.compiler.proofs.Compilers.{wanted-is}
 use Rattle.compiler.proofs.Ending.{roomy, records-fit, none, short-ends, prepared, plain-ends, compact-ends}
 use Rattle.compiler.proofs.compile_filled.Statement.{statement}
 use Rattle.compiler.proofs.compile_filled.Tie as tie
@@ -40,9 +40,9 @@ ordered c = within-range (c .args .n) 600 (c .pre .0 .slotted .order) .1
 covers : (c : tie.After-wide2) → let a = entry (counted-short (short c)) .args in c .wide2 .result ≤ length (now (a .work))
 covers c =
     let e = entry (counted-short (short c)) in
-    omega (arith, c .wide2 .ensures, roomy (e .pre .0 .slotted), wanted-is (compilerOf (e .args .again)) (e .args .n))
+    omega (arith, c .wide2 .ensures, roomy (e .pre .0 .slotted), wanted-is (croutOf (e .args .again)) (e .args .n))
 
-past : (c : tie.After-wide3) → let a = entry (counted-short (short (squared c))) .args in c .wide3 .result ≡ spare (compilerOf (a .again)) (a .n)
+past : (c : tie.After-wide3) → let a = entry (counted-short (short (squared c))) .args in c .wide3 .result ≡ spare (croutOf (a .again)) (a .n)
 past c = c .wide3 .ensures ∙ c .before .spare .ensures
 
 record-count-requires : tie.Need-record-count-requires
@@ -90,7 +90,7 @@ clear-requires c κs =
       past c,
       q .wide2 .ensures,
       roomy (e .pre .0 .slotted),
-      wanted-is (compilerOf (e .args .again)) (e .args .n),
+      wanted-is (croutOf (e .args .again)) (e .args .n),
       ap length (whole-part (q .wide2 .result) work),
       length-drop (q .wide2 .result) work,
     )
@@ -112,7 +112,7 @@ write-compact-requires : tie.Need-write-compact-requires
 write-compact-requires c κs =
     let r = counted (c .before .before .before) in
     let p = entry r .pre in
-    let room = ap (λ b. wanted (compilerOf b) (entry r .args .n)) (c .before .before .if2 .taken) in (
+    let room = ap (λ b. wanted (croutOf b) (entry r .args .n)) (c .before .before .if2 .taken) in (
       prepared (p .0 .slotted) (p .1) _ _ (r .record-count .ensures) (search needs),
       (none (p .0 .slotted) (p .1), omega (arith, roomy (p .0 .slotted), room)),
     )
@@ -129,7 +129,7 @@ returns-2 c =
     let again = w .before .before .before in
     let r = counted (again .before) in
     λ before s. compact-ends s (entry r .pre .1) _ _ (r .record-count .ensures) (search needs)
-    (ap compilerOf (again .if2 .taken)) (w .write-compact .ensures .0) (w .write-compact .ensures .1 .1) (w .write-compact .ensures .1 .0)
+    (again .if2 .taken) (w .write-compact .ensures .0) (w .write-compact .ensures .1 .1) (w .write-compact .ensures .1 .0)
 
 write-requires : tie.Need-write-requires
 write-requires c κs =
@@ -148,7 +148,7 @@ returns-3 c =
     let w = c .before .before in
     let once = w .before .before .before in
     let r = counted (once .before) in
-    λ before s. plain-ends s (entry r .pre .1) _ _ (r .record-count .ensures) (search needs) (ap compilerOf (once .if2 .left)) (w .write .ensures)
+    λ before s. plain-ends s (entry r .pre .1) _ _ (r .record-count .ensures) (search needs) (once .if2 .left) (w .write .ensures)
 
 pub compile-filled-spec : {M : Type 1} → statement M
 compile-filled-spec =

@@ -18,13 +18,20 @@ idle c =
     let g = c .before .before .args .g in
     sym (idle-number (g .target) (g .number)) ∙ ap (λ m. eqb m 0) (sym (c .before .open-number .ensures)) ∙ eq-eqb _ _ (c .if1 .taken)
 
+length-of-y-requires : tie.Need-length-of-y-requires
+length-of-y-requires c κs = search needs
+
 returns : tie.Need-returns
 unfolding complete
-returns c = rw (idle (c .before .before .before .before .before), eq-eqb _ _ (c .before .before .before .if2 .taken), eq-eqb _ _ (c .before .if3 .taken))
+returns c =
+    let y = c .before .before .before in
+    rw (idle (y .before .before .before), eq-eqb _ _ (y .before .if2 .taken), ← y .length-of-y .ensures, eq-eqb _ _ (c .before .if3 .taken))
 
 returns-2 : tie.Need-returns-2
 unfolding complete
-returns-2 c = rw (idle (c .before .before .before .before), eq-eqb _ _ (c .before .before .if2 .taken), ne-eqb _ _ (c .if3 .left))
+returns-2 c =
+    let y = c .before .before in
+    rw (idle (y .before .before .before), eq-eqb _ _ (y .before .if2 .taken), ← y .length-of-y .ensures, ne-eqb _ _ (c .if3 .left))
 
 returns-3 : tie.Need-returns-3
 unfolding complete
@@ -37,4 +44,4 @@ returns-4 c =
     rw (← idle-number (g .target) (g .number), ← c .before .open-number .ensures, ne-eqb _ _ (c .if1 .left))
 
 pub complete-spec : {M : Type 1} → statement M
-complete-spec = tie.close (tie.spec open-number-requires returns returns-2 returns-3 returns-4)
+complete-spec = tie.close (tie.spec open-number-requires length-of-y-requires returns returns-2 returns-3 returns-4)

@@ -1,9 +1,10 @@
 -- `progress::onward` is the progress after a record.
+use mathlib.Core.Logic.{inl, inr}
 use mathlib.Core.Path.{sym, ap, _∙_}
 use native.Mathlib.Omega.{arith}
 use Rattle.model.specs.Check.{kindOf, onward}
 use Rattle.progress.specs.Steps.{progressOf}
-use Rattle.progress.proofs.Judging.{onward-closes, onward-same}
+use Rattle.progress.proofs.Judging.{opens-x, onward-closes, onward-same}
 use borrow.Author.Needs.{needs}
 use Rattle.progress.proofs.onward.Statement.{statement}
 use Rattle.progress.proofs.onward.Tie as tie
@@ -33,10 +34,9 @@ returns-2 c =
     c .opened2 .ensures ∙ ap (λ k. onward (kindOf k) (a .p) (a .q) (progressOf (a .g))) (sym (c .before .match .keys2))
 
 returns-3 : tie.Need-returns-3
-unfolding kindOf
 returns-3 c =
     let a = c .before .before .args in
-    c .opened3 .ensures ∙ ap (λ k. onward (kindOf k) (a .p) (a .q) (progressOf (a .g))) (sym (c .before .match .keys3))
+    c .opened3 .ensures ∙ ap (λ k. onward k (a .p) (a .q) (progressOf (a .g))) (opens-x (a .kind) (c .before .match .keys3))
 
 returns-4 : tie.Need-returns-4
 returns-4 c =
@@ -47,15 +47,15 @@ returns-5 : tie.Need-returns-5
 returns-5 c =
     let a = c .before .before .args in
     let other = c .before .match .rest in
-    onward-same (a .kind) (a .p) (a .q) (progressOf (a .g)) (other .0 .0 .1) (other .0 .1) (other .1)
-    (λ e. omega (arith, c .if1 .taken)) (λ e. omega (arith, c .if1 .taken))
+    onward-same (a .kind) (a .p) (a .q) (progressOf (a .g)) (other .0 .0 .1) (other .0 .1) (λ e. other .1 (inl e))
+    (λ e. omega (arith, c .if1 .taken)) (λ e. omega (arith, c .if1 .taken)) (λ e. other .1 (inr e))
 
 returns-6 : tie.Need-returns-6
 returns-6 c =
     let a = c .before .before .before .args in
     let other = c .before .before .match .rest in
-    onward-same (a .kind) (a .p) (a .q) (progressOf (a .g)) (other .0 .0 .1) (other .0 .1) (other .1)
-    (λ e. omega (arith, c .if2 .left)) (λ e. omega (arith, c .if2 .left))
+    onward-same (a .kind) (a .p) (a .q) (progressOf (a .g)) (other .0 .0 .1) (other .0 .1) (λ e. other .1 (inl e))
+    (λ e. omega (arith, c .if2 .left)) (λ e. omega (arith, c .if2 .left)) (λ e. other .1 (inr e))
 
 pub onward-spec : {M : Type 1} → statement M
 onward-spec =

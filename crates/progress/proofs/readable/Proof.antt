@@ -21,7 +21,7 @@ returns : tie.Need-returns
 returns c =
     let a = c .before .before .args in
     let sub = subtracting (a .kind) (c .before .before .pre .0) (c .before .before .pre .1) in
-    readable-is (a .h) (a .g) (a .kind) (a .p) (a .q) (sub .table) (sub .kind-is) (sym (not-true _ (c .if1 .taken)) ∙ c .before .within .ensures) refl
+    readable-is (a .h) (a .g) (a .kind) (a .p) (a .q) (sub .table) (sub .kind-is .is) (sym (not-true _ (c .if1 .taken)) ∙ c .before .within .ensures) refl
 
 within-requires-2 : tie.Need-within-requires-2
 within-requires-2 c κs = search needs

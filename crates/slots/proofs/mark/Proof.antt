@@ -1,5 +1,5 @@
--- `slots::mark` clears, then marks the labels. The invariant: the first k are marked. The measure is how many are left.
-use Prim.Native.Nat.{_-_, _*_, _≤_, _<_}
+-- `slots::mark` clears, then marks the labels. The invariant: the first k have their positions. The measure is how many are left.
+use Prim.Native.Nat.{suc, _+_, _-_, _*_, _≤_, _<_}
 use native.Mathlib.Nat.{mul-le-mul}
 use native.Mathlib.Numerals.{add-one}
 use native.Mathlib.Omega.{arith}
@@ -8,16 +8,15 @@ use mathlib.Core.List.{_++_}
 use borrow.Author.Needs.{needs}
 use denote.Ref.{now}
 use lib.ListN.{length, getD, take, drop, replicate}
-use lib.Seq.{take-suc, take-all}
+use lib.Seq.{length-take-le, take-suc, take-all}
 use Rattle.model.proofs.Within.{within-range}
-use Rattle.model.proofs.Plans.{label-inside}
-use Rattle.slots.specs.Marks.{Marked}
-use Rattle.slots.proofs.Marks.{marked-none, marked-since, marked-more}
+use Rattle.model.proofs.Plans.{plan-length, label-inside, label-new}
+use Rattle.slots.proofs.Marks.{Positioned, positioned-none, positioned-more, marked-since}
 use Rattle.slots.proofs.mark.Statement.{statement}
 use Rattle.slots.proofs.mark.Tie as tie
 
 abbrev Inv-loop : tie.InvT-loop
-Inv-loop n plan work₀ k₀ work k = Marked n (take k plan) work₀ work × (k ≤ length plan)
+Inv-loop n plan work₀ k₀ work k = Positioned n (take k plan) work₀ work × (k ≤ length plan)
 
 abbrev μ-loop : tie.MeasureT-loop
 μ-loop n plan work₀ k₀ work k = length plan - k
@@ -37,6 +36,10 @@ square c = let high = within-range (c .args .n) 600 (c .pre .0) .1 in (mul-le-mu
 label : (c : tie.In-loop Inv-loop μ-loop) → let a = entry c .args in let k = c .before .loop .k in
     (1 ≤ getD (a .plan .now) k 0) × (getD (a .plan .now) k 0 ≤ a .n * a .n)
 label c = label-inside _ _ _ (entry c .pre .1 .0) (omega arith)
+
+-- there are few of them
+few : (c : tie.In-loop Inv-loop μ-loop) → c .before .loop .k < 360000
+few c = omega (arith, plan-length _ _ (entry c .pre .1 .0), square (entry c) .0)
 
 -- what clearing leaves
 zeros : (c : tie.After-clear Inv-loop μ-loop) → let a = c .before .before .before .before .before .args in
@@ -66,7 +69,13 @@ clear-requires : tie.Need-clear-requires Inv-loop μ-loop
 clear-requires c κs = omega (arith, square (c .before .before .before .before), c .wide .ensures)
 
 loop-holds : tie.Need-loop-holds Inv-loop μ-loop
-loop-holds c = (marked-none _ _ (zeros (c .before .before)), omega arith)
+loop-holds c = (positioned-none _ _ (zeros (c .before .before)), omega arith)
+
+cast-work : tie.Need-cast-work Inv-loop μ-loop
+cast-work c = omega (arith, few c)
+
+add-work : tie.Need-add-work Inv-loop μ-loop
+add-work c = omega (arith, few c)
 
 mul-wide-2 : tie.Need-mul-wide-2 Inv-loop μ-loop
 mul-wide-2 c = search needs
@@ -97,9 +106,14 @@ loop-again c =
     let t = c .before .before in
     let i = t .before .loop .inv in
     let l = label t in
+    let k = t .before .loop .k in
+    let plan = entry t .args .plan .now in
     let cleared = t .before .before .before .before .clear .kept .0 in
-    let label-more = take-suc (entry t .args .plan .now) (t .before .loop .k) 0 (omega arith) in
-    (rw (add-one, label-more, index c .0) (marked-more _ (i .0) (omega (arith, square (entry t) .1, cleared)) (l .0) (l .1)), omega arith)
+    let label-more = take-suc plan k 0 (omega arith) in
+    let place : suc (length (take k plan)) ≡ k + 1 = omega (arith, length-take-le k plan (i .1)) in
+    let new = label-new _ plan k (entry t .pre .1 .0) (omega arith) in
+    let more = positioned-more _ (i .0) (omega (arith, square (entry t) .1, cleared)) (l .0) (l .1) new in
+    (rw (add-one, label-more, index c .0) (rw (place, add-one) at more), omega arith)
 
 same-length : tie.Need-same-length Inv-loop μ-loop
 same-length c = sizes (c .before)
@@ -120,6 +134,8 @@ mark-spec =
     wide-requires
     clear-requires
     loop-holds
+    cast-work
+    add-work
     mul-wide-2
     shared-slice-read-wide
     sub-wide

@@ -6,7 +6,6 @@ use Rattle.model.specs.Arith.{clean}
 use Rattle.model.specs.Formula.{C, Y, X, starting}
 use Rattle.model.specs.Check.{kindOf}
 use Rattle.model.specs.Run.{going, step}
-use Rattle.state.specs.States.{stateOf}
 use Rattle.state.proofs.Steps.{entry-c, entry-y, entry-x}
 use Rattle.state.proofs.Arms.{allowed-as, no-kind, gives-open, gives-subtract, gives-divide}
 use Rattle.state.proofs.step.Statement.{statement}
@@ -258,16 +257,10 @@ returns-10 c =
     rw (tested .before .before .match .keys9, sym (tested .before .is-small .ensures) ∙ tested .if1 .left) (ap going (close .0), close .1)
 
 returns-11 : tie.Need-returns-11
-unfolding step
 returns-11 c =
-    let s = start (c .before) in
-    let a = s .args in
-    let other = c .match .rest in (
-      ap (λ k. step (a .a .now) (a .b .now) (a .limit) (stateOf (a .z) (a .c .now) (a .y .now) (a .x .now)) k (a .p) (a .q))
-          (sym (no-kind (a .kind) (other .0 .0 .0 .0 .0 .0 .0 .0 .1) (other .0 .0 .0 .0 .0 .0 .0 .1) (other .0 .0 .0 .0 .0 .0 .1) (other .0 .0 .0 .0 .0 .1)
-          (other .0 .0 .0 .0 .1) (other .0 .0 .0 .1) (other .0 .0 .1) (other .0 .1) (other .1))),
-      s .pre .sound,
-    )
+    let other = c .match .rest in
+    absurd (no-kind _ (start (c .before) .pre .own) (other .0 .0 .0 .0 .0 .0 .0 .0 .1) (other .0 .0 .0 .0 .0 .0 .0 .1) (other .0 .0 .0 .0 .0 .0 .1)
+    (other .0 .0 .0 .0 .0 .1) (other .0 .0 .0 .0 .1) (other .0 .0 .0 .1) (other .0 .0 .1) (other .0 .1) (other .1))
 
 pub step-spec : {M : Type 1} → statement M
 step-spec =

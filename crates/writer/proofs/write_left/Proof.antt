@@ -6,19 +6,19 @@ use mathlib.Core.Path.{_≡_, _∙_}
 use borrow.Author.Needs.{needs}
 use denote.Ref.{now}
 use Rattle.model.specs.Label.{label}
-use Rattle.writer.specs.Worked.{forwardAt}
-use Rattle.writer.proofs.Products.{label-answered, Stands, stands, forward-at, label-across}
+use Rattle.writer.specs.Worked.{productAt}
+use Rattle.writer.proofs.Products.{label-answered, Stands, stands, product-at, label-across}
 use Rattle.writer.proofs.Products.{Rising, rising-skips, rising-room, rising-more, rising-ends}
 use Rattle.writer.proofs.Written.{wrote-length}
 use Rattle.writer.proofs.write_left.Statement.{statement}
 use Rattle.writer.proofs.write_left.Tie as tie
 
 abbrev Inv-loop : tie.InvT-loop
-Inv-loop n work rest₀ first k m from next₀ h₀ across₀ rest next h across =
-    Rising (forwardAt n work m) 1 first k m rest₀ next h rest × (h < m → across ≡ label n m h)
+Inv-loop n work rest₀ first k kind m from next₀ h₀ across₀ rest next h across =
+    Rising (productAt n work kind m) 1 first k m rest₀ next h rest × (h < m → across ≡ label n m h)
 
 abbrev μ-loop : tie.MeasureT-loop
-μ-loop n work rest₀ first k m from next₀ h₀ across₀ rest next h across = m - h
+μ-loop n work rest₀ first k kind m from next₀ h₀ across₀ rest next h across = m - h
 
 -- Places of the code: a turn, seen from its end, and the entry, seen from the loop's head.
 abbrev Turn : Type 0
@@ -61,7 +61,7 @@ shared-slice-read-subtract c = omega (arith, here (c .before .before))
 subtract-requires : tie.Need-subtract-requires Inv-loop μ-loop
 subtract-requires c κs =
     let t = c .before .before in
-    rw (forward-at (here t)) at (rising-room (t .before .loop .inv .0) (t .loop-test .taken))
+    rw (product-at _ (here t)) at (rising-room (t .before .loop .inv .0) (t .loop-test .taken))
 
 sub-wide : tie.Need-sub-wide Inv-loop μ-loop
 sub-wide c = omega arith
@@ -84,7 +84,7 @@ loop-less c = omega arith
 loop-again : tie.Need-loop-again Inv-loop μ-loop
 loop-again c =
     let t = turn c in (
-      rising-more (t .before .loop .inv .0) (t .loop-test .taken) (rw (← forward-at (here t)) at (c .before .before .before .subtract .ensures)),
+      rising-more (t .before .loop .inv .0) (t .loop-test .taken) (rw (← product-at _ (here t)) at (c .before .before .before .subtract .ensures)),
       λ below. label-across _ _ _ _ _ (here t .is) (c .wide2 .ensures) (omega arith) (omega arith) (omega arith),
     )
 

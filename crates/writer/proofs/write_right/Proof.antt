@@ -5,8 +5,8 @@ use mathlib.Core.Path.{_≡_, _∙_}
 use denote.Ref.{now}
 use borrow.Author.Needs.{needs}
 use Rattle.model.specs.Label.{label}
-use Rattle.writer.specs.Worked.{backwardAt}
-use Rattle.writer.proofs.Products.{label-answered, Stands, stands, backward-at, label-left}
+use Rattle.writer.specs.Worked.{productAt}
+use Rattle.writer.proofs.Products.{label-answered, Stands, stands, product-at, label-left}
 use Rattle.writer.proofs.Products.{Falling, falling-starts, falling-room, falling-more, falling-ends}
 use Rattle.writer.proofs.Written.{wrote-length}
 use Rattle.writer.proofs.write_right.Statement.{statement}
@@ -14,7 +14,7 @@ use Rattle.writer.proofs.write_right.Tie as tie
 
 abbrev Inv-loop : tie.InvT-loop
 Inv-loop n work rest₀ first k i next₀ h₀ across₀ rest next h across =
-    Falling (backwardAt n work i) first k n i rest₀ next h rest × (i < h → across ≡ label n i h)
+    Falling (productAt n work 6 i) first k n i rest₀ next h rest × (i < h → across ≡ label n i h)
 
 abbrev μ-loop : tie.MeasureT-loop
 μ-loop n work rest₀ first k i next₀ h₀ across₀ rest next h across = h
@@ -57,7 +57,7 @@ shared-slice-read-subtract c = omega (arith, here (c .before .before))
 subtract-requires : tie.Need-subtract-requires Inv-loop μ-loop
 subtract-requires c κs =
     let t = c .before .before in
-    rw (backward-at (here t)) at (falling-room (t .before .loop .inv .0) (t .loop-test .taken))
+    rw (product-at _ (here t)) at (falling-room (t .before .loop .inv .0) (t .loop-test .taken))
 
 sub-across : tie.Need-sub-across Inv-loop μ-loop
 sub-across c = omega (arith, here (turn c))
@@ -71,7 +71,7 @@ loop-less c = omega arith
 loop-again : tie.Need-loop-again Inv-loop μ-loop
 loop-again c =
     let t = turn c in (
-      falling-more (t .before .loop .inv .0) (t .loop-test .taken) (rw (← backward-at (here t)) at (c .before .before .subtract .ensures)),
+      falling-more (t .before .loop .inv .0) (t .loop-test .taken) (rw (← product-at _ (here t)) at (c .before .before .subtract .ensures)),
       label-left _ _ _ _ (here t .is),
     )
 

@@ -11,23 +11,14 @@ use Rattle.capi.proofs.answers.limit_answer.Tie as tie
 enum-known-answer : tie.Need-enum-known-answer
 enum-known-answer c = search needs
 
-cast-t13 : tie.Need-cast-t13
-cast-t13 c = search needs
-
-cast-t14 : tie.Need-cast-t14
-cast-t14 c = search needs
-
-cast-t15 : tie.Need-cast-t15
-cast-t15 c = search needs
-
 enum-known-answer-2 : tie.Need-enum-known-answer-2
 enum-known-answer-2 c = search needs
 
 cast-refusal : tie.Need-cast-refusal
 cast-refusal c = search needs
 
-cast-t17 : tie.Need-cast-t17
-cast-t17 c = search needs
+cast-t15 : tie.Need-cast-t15
+cast-t15 c = search needs
 
 cast-refusal-2 : tie.Need-cast-refusal-2
 cast-refusal-2 c = search needs
@@ -55,12 +46,9 @@ limit-answer-spec =
     tie.close
     (tie.spec
     enum-known-answer
-    cast-t13
-    cast-t14
-    cast-t15
     enum-known-answer-2
     cast-refusal
-    cast-t17
+    cast-t15
     cast-refusal-2
     refusal-requires
     enum-known-answer-3

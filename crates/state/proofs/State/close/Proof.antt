@@ -28,7 +28,7 @@ free-y c =
 table-x : (c : tie.At-match-rest) → tableOf (start (c .before) .args .self .table) ≡ X
 table-x c = is-x _ (c .match .rest .0 .1) (c .match .rest .1)
 
-free-x : (c : tie.At-match-rest) → start (c .before) .args .self .x < length (start (c .before) .args .x .now)
+free-x : (c : tie.At-match-rest) → let a = start (c .before) .args in FreeIn (length (a .c .now)) (length (a .y .now)) (length (a .x .now)) (a .self) X
 free-x c =
     let a = start (c .before) .args in
     free-in (a .self) (a .c .now) (a .y .now) (a .x .now) (table-x c) (start (c .before) .pre .1)
