@@ -1,5 +1,5 @@
-// A program's words, or a file's bytes, against checks 7 to 13: document 01, "Where each refusal is checked"; document 02, A.7 and A.11.
-// One pass, no memory.
+// A program's words, or a file's bytes, against checks 7 to 13: document 01, "Where each refusal is checked"; document 02, A.6, A.7
+// and A.11. One pass, no memory.
 use numbers::wide;
 use numbers::within;
 use progress::Head;
@@ -10,6 +10,7 @@ ghost use Prim.Native.Nat.{_+_, _*_, _≤_, _<_};
 ghost use lib.Dec.{ltb};
 ghost use lib.ListN.{length};
 ghost use Rattle.model.specs.Check.{word, whole, atEnd};
+ghost use Rattle.model.specs.Check.{checkFrom};
 ghost use Rattle.model.specs.Check.{check as Check·check};
 ghost use Rattle.model.specs.File.{wordsOf, checkFile};
 ghost use Rattle.progress.specs.Steps.{progressOf};
@@ -36,7 +37,14 @@ struct Record {
 pub fn check(words: &[u32]) -> Checked
     ensures { λ r. ⌜ verdictOf r ≡ Check·check (now (words .entry)) ⌝ }
 {
-    check_either(words, b"", false, words.len())
+    check_either(words, b"", false, words.len(), 0)
+}
+
+// The same of a call that takes Crout programs only: 8 refuses s = 0.
+pub fn check_crout(words: &[u32]) -> Checked
+    ensures { λ r. ⌜ verdictOf r ≡ checkFrom 1 (now (words .entry)) ⌝ }
+{
+    check_either(words, b"", false, words.len(), 1)
 }
 
 // Check 18 of a file, then 7 to 13 of the program in it.
@@ -49,13 +57,13 @@ pub fn check_file(bytes: &[u8]) -> Checked
             detail: 0,
         };
     }
-    check_either(&[], bytes, true, bytes.len() / 4)
+    check_either(&[], bytes, true, bytes.len() / 4, 0)
 }
 
-// 7, then 8, then the chain, of a program that stands in the words or, if filed, in the bytes.
-fn check_either(words: &[u32], bytes: &[u8], filed: bool, count: usize) -> Checked
+// 7, then 8, with s at least so much, then the chain, of a program that stands in the words or, if filed, in the bytes.
+fn check_either(words: &[u32], bytes: &[u8], filed: bool, count: usize, least: u32) -> Checked
     requires { ⌜ count ≡ length (content filed (now words) (now bytes)) ⌝ }
-    ensures { λ r. ⌜ verdictOf r ≡ Check·check (content filed (now (words .entry)) (now (bytes .entry))) ⌝ }
+    ensures { λ r. ⌜ verdictOf r ≡ checkFrom least (content filed (now (words .entry)) (now (bytes .entry))) ⌝ }
 {
     if !count_fits(count) {
         return Checked::Refused {
@@ -64,7 +72,7 @@ fn check_either(words: &[u32], bytes: &[u8], filed: bool, count: usize) -> Check
         };
     }
     let h = head_of(record_at(words, bytes, filed, 0));
-    if !head_fits(h) {
+    if !head_fits(h, least) {
         return Checked::Refused {
             number: 8,
             detail: 0,
@@ -91,12 +99,12 @@ fn head_of(r: Record) -> Head
     }
 }
 
-// 8: N in 1..600, n and s at most N²; s is 0 in a sweep (A.7).
-fn head_fits(h: Head) -> bool
-    ensures { λ r. ⌜ r ≡ eight (h .order) (h .coefficients) (h .slots) ⌝ }
+// 8: N in 1..600, n and s at most N²; s is 0 in a sweep (A.7), or at least so much.
+fn head_fits(h: Head, least: u32) -> bool
+    ensures { λ r. ⌜ r ≡ eight least (h .order) (h .coefficients) (h .slots) ⌝ }
 {
     let n = h.order;
-    within(n, 600) && (h.coefficients <= n * n && h.slots <= n * n)
+    within(n, 600) && (h.coefficients <= n * n && (least <= h.slots && h.slots <= n * n))
 }
 
 // The records along the chain, and its end. In the inner loop each is the one that follows the last, so that it is read without waiting

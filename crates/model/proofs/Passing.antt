@@ -4,12 +4,12 @@ use native.Mathlib.Omega.{arith}
 use mathlib.Core.Path.{_≡_, refl}
 use mathlib.Core.Bool.{Bool, true, false, cond, _&&_, and-eq-true-iff}
 use mathlib.Core.List.{List, _∷_}
-use borrow.Author.Tests.{lt-ltb, ltb-true, le-leb, leb-true, eq-eqb, eqb-true}
+use borrow.Author.Tests.{lt-ltb, ltb-true, le-leb, leb-true, eq-eqb, eqb-true, ne-eqb}
 use lib.Dec.{eqb, leb, ltb}
 use lib.ListN.{length}
 use Rattle.model.specs.Label.{isOrder}
 use Rattle.model.specs.Check.{Link, End, whole, Progress, Verdict, fine, refusal, Kind, kindOf, belongs, formed, inOrder, allowed, onward}
-use Rattle.model.specs.Check.{complete, atEnd, begun, word, chain, checkLinks, check}
+use Rattle.model.specs.Check.{complete, atEnd, begun, isSweep, word, chain, checkLinks, checkFrom, check}
 
 -- a refusal is not fine
 pub refused-fine : (r d : ℕ) → refusal r d ≡ fine → ⊥
@@ -19,9 +19,16 @@ refused-fine r d e = let z : _≡_ {A = ℕ} 0 1 = cc in omega arith
 pub both : (a b : Bool) → a && b ≡ true → (a ≡ true) × (b ≡ true)
 both a b = and-eq-true-iff a b .0
 
--- 8's test
-abbrev pub eight : ℕ → ℕ → ℕ → Bool
-eight N n s = isOrder N && (leb n (N * N) && leb s (N * N))
+-- 8's test, which asks s to be `least` or more
+abbrev pub eight : ℕ → ℕ → ℕ → ℕ → Bool
+eight least N n s = isOrder N && (leb n (N * N) && (leb least s && leb s (N * N)))
+
+-- what passes it with some `least` passes it with 0
+pub eight-any : (least N n s : ℕ) → eight least N n s ≡ true → eight 0 N n s ≡ true
+eight-any least N n s e =
+    let order = both (isOrder N) _ e in
+    let labels = both (leb n (N * N)) _ (order .1) in
+    rw (order .0, labels .0, le-leb 0 s (omega arith)) (both (leb least s) (leb s (N * N)) (labels .1) .1)
 
 -- 9's test, of the next index n of record k
 pub next-range : (k n records : ℕ) → ltb k n && ltb n records ≡ true → (k < n) × (n < records)
@@ -30,35 +37,60 @@ next-range k n records e =
     (ltb-true k n (t .0), ltb-true n records (t .1))
 
 -- what passes 7 to 13
-pub record Passed (W : List ℕ) : Type 0 where
+pub record Passed (least : ℕ) (W : List ℕ) : Type 0 where
   pub some : 0 < length W
   pub fours : length W % 4 ≡ 0
   pub few : length W / 4 ≤ 100000000
-  pub head : eight (word W 0) (word W 1) (word W 2) ≡ true
+  pub head : eight least (word W 0) (word W 1) (word W 2) ≡ true
   pub links : checkLinks (word W 0) (word W 1) (word W 2) begun (chain W .links) (chain W .end) ≡ fine
 
-pub passed-fine : (W : List ℕ) → Passed W → check W ≡ fine
-unfolding check
-passed-fine W p =
-    rw (check, lt-ltb 0 (length W) (p .some), eq-eqb (length W % 4) 0 (p .fours), le-leb (length W / 4) 100000000 (p .few), p .head) (p .links)
+pub passed-from : (least : ℕ) (W : List ℕ) → Passed least W → checkFrom least W ≡ fine
+unfolding checkFrom
+passed-from least W p =
+    rw (checkFrom, lt-ltb 0 (length W) (p .some), eq-eqb (length W % 4) 0 (p .fours), le-leb (length W / 4) 100000000 (p .few), p .head) (p .links)
 
-pub fine-passed : (W : List ℕ) → check W ≡ fine → Passed W
-unfolding check
-fine-passed W e =
-    go (ltb 0 (length W)) (eqb (length W % 4) 0) (leb (length W / 4) 100000000) (eight (word W 0) (word W 1) (word W 2)) refl refl refl refl e
+pub from-passed : (least : ℕ) (W : List ℕ) → checkFrom least W ≡ fine → Passed least W
+unfolding checkFrom
+from-passed least W e =
+    go (ltb 0 (length W)) (eqb (length W % 4) 0) (leb (length W / 4) 100000000) (eight least (word W 0) (word W 1) (word W 2)) refl refl refl refl e
   where
     rest : Verdict
     rest = checkLinks (word W 0) (word W 1) (word W 2) begun (chain W .links) (chain W .end)
 
     go : (some fours few head : Bool) → ltb 0 (length W) ≡ some → eqb (length W % 4) 0 ≡ fours → leb (length W / 4) 100000000 ≡ few
-        → eight (word W 0) (word W 1) (word W 2) ≡ head
-        → elim (some && (fours && few)) as (λ b. Verdict) [ false ↦ refusal 7 0 | true ↦ elim head [ false ↦ refusal 8 0 | true ↦ rest ] ] ≡ fine → Passed W
+        → eight least (word W 0) (word W 1) (word W 2) ≡ head
+        → elim (some && (fours && few)) as (λ b. Verdict) [ false ↦ refusal 7 0 | true ↦ elim head [ false ↦ refusal 8 0 | true ↦ rest ] ] ≡ fine → Passed least W
     go false fours few head a b c d e = absurd (refused-fine _ _ e)
     go true false few head a b c d e = absurd (refused-fine _ _ e)
     go true true false head a b c d e = absurd (refused-fine _ _ e)
     go true true true false a b c d e = absurd (refused-fine _ _ e)
     go true true true true a b c d e =
         record { some = ltb-true 0 (length W) a; fours = eqb-true (length W % 4) 0 b; few = leb-true (length W / 4) 100000000 c; head = d; links = e }
+
+pub passed-fine : (W : List ℕ) → Passed 0 W → check W ≡ fine
+unfolding check
+passed-fine W p = passed-from 0 W p
+
+pub fine-passed : (W : List ℕ) → check W ≡ fine → Passed 0 W
+unfolding check
+fine-passed W e = from-passed 0 W e
+
+-- a call that "takes Crout programs only" (A.6) lets through what passes the checks and is no program of sweeps
+pub crout-only : (W : List ℕ) → checkFrom 1 W ≡ fine → (check W ≡ fine) × (isSweep (word W 2) ≡ false)
+crout-only W e =
+    let p = from-passed 1 W e in
+    let order = both (isOrder (word W 0)) _ (p .head) in
+    let labels = both (leb (word W 1) (word W 0 * word W 0)) _ (order .1) in
+    let slots = both (leb 1 (word W 2)) (leb (word W 2) (word W 0 * word W 0)) (labels .1) in (
+      passed-fine W (record {
+        some = p .some;
+        fours = p .fours;
+        few = p .few;
+        head = eight-any 1 (word W 0) (word W 1) (word W 2) (p .head);
+        links = p .links;
+      }),
+      ne-eqb (word W 2) 0 (λ z. omega (arith, leb-true 1 (word W 2) (slots .0))),
+    )
 
 -- the first record of a chain passes 10, 11 and 12, and the others pass after it
 pub record LinkPassed (N n s : ℕ) (g : Progress) (l : Link) (ls : List Link) (e : End) : Type 0 where

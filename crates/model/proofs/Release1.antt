@@ -616,7 +616,7 @@ module _ (W : List ℕ) (accepts : R.check W ≡ R.fine) where
         some = ltb-true 0 (length W) (some .0);
         fours = eqb-true (length W % 4) 0 (size .0);
         few = leb-true (length W / 4) 100000000 (size .1);
-        head = rw (order .0, labels .0, slots .1);
+        head = rw (order .0, labels .0, le-leb 0 (word W 2) (omega arith), slots .1);
         links = rw (← chain-frozen W) (links-now (word W 0) (word W 1) (word W 2) crout _ (R.chain W) (passed .along));
       })
 

@@ -177,9 +177,10 @@ accepted-then W passes slots few =
     let p = fine-passed W passes in
     let order = both (within (word W 0) 600) _ (p .head) in
     let labels = both (leb (word W 1) (word W 0 * word W 0)) _ (order .1) in
+    let high = both (leb 0 (word W 2)) (leb (word W 2) (word W 0 * word W 0)) (labels .1) .1 in
     let crout = ne-eqb (word W 2) 0 (λ e. omega (arith, within-range (word W 0) 600 (order .0))) in
     rw (lt-ltb 0 (length W) (p .some), eq-eqb (length W % 4) 0 (p .fours), le-leb (length W / 4) 100000000 (p .few))
-    (rw (order .0, labels .0, le-leb (word W 0) (word W 2) slots, labels .1)
+    (rw (order .0, labels .0, le-leb (word W 0) (word W 2) slots, high)
     (passes-then (word W 0) (word W 1) (word W 2) crout begunThen (R.chain W) (rw (chain-frozen W) (p .links)) (rw (chain-frozen W) (omega arith))))
 
 -- ---- what release 1 accepts opens its slots in turn

@@ -104,7 +104,7 @@ follow-link A B limit W z k r = by (step A B limit z (kindOf (r .kind)) (r .p) (
 
 module _ {A B : List Float} {limit : Float} {W : List ℕ} {sweep : Bool} {z₀ : State} {base : ℕ} where
   -- before the first record
-  pub run-begins : Passed W → Stands sweep (word W 0) (word W 1) (word W 2) limit (z₀ .tables .x) begun z₀ false → z₀ .products + z₀ .quotients ≤ base
+  pub run-begins : Passed 0 W → Stands sweep (word W 0) (word W 1) (word W 2) limit (z₀ .tables .x) begun z₀ false → z₀ .products + z₀ .quotients ≤ base
       → z₀ .vanished ≤ z₀ .products → RunAfter A B limit W sweep z₀ base z₀ false 0
   run-begins p stands made gone = record {
     progress = begun;
@@ -191,19 +191,27 @@ NotRefused (stopped r k t n) = Unit {0}
 NotRefused (refusedBy r d) = ⊥
 NotRefused (unsettledAt t) = Unit {0}
 
-abbrev SweptSo : Sweeps State Outcome → Type 0
+-- refused at a record
+abbrev pub Stops : Outcome → Type 0
+Stops (solution t p q g k) = ⊥
+Stops (stopped r k t n) = Unit {0}
+Stops (refusedBy r d) = ⊥
+Stops (unsettledAt t) = ⊥
+
+-- no other ending comes before the sweeps' own
+abbrev pub SweptSo : Sweeps State Outcome → Type 0
 SweptSo (settled z k) = Unit {0}
 SweptSo (unsettled z) = Unit {0}
-SweptSo (ended e) = NotRefused e
+SweptSo (ended e) = Stops e
 
 module _ (A B : List Float) (limit : Float) (N : ℕ) (ls : List Link) where
-  abbrev onceFrom : State → Once State Outcome
+  abbrev pub onceFrom : State → Once State Outcome
   onceFrom z = onceMore (follow A B limit z ls)
 
-  abbrev movesFrom : State → State → Bool
+  abbrev pub movesFrom : State → State → Bool
   movesFrom z w = moved limit N (z .tables .x) (w .tables .x)
 
-  sweeps-so : (d k : ℕ) (z : State) → SweptSo (sweeping onceFrom movesFrom d k z)
+  pub sweeps-so : (d k : ℕ) (z : State) → SweptSo (sweeping onceFrom movesFrom d k z)
   unfolding sweeping
   sweeps-so zero k z = tt
   sweeps-so (suc d) k z = by (follow A B limit z ls) (λ w. sweeps-so d (suc k) w)
@@ -242,4 +250,4 @@ done-not-refused W A B limit true =
     ])
     by (settled z k) so = tt
     by (unsettled z) so = tt
-    by (ended e) so = so
+    by (ended (stopped r k t n)) so = tt

@@ -14,13 +14,14 @@ use Rattle.model.specs.Fill.{Plan, position, missing}
 use Rattle.model.specs.Check as Check
 use Rattle.model.specs.Check.{Link, Kind, opens, subtracts, divides, closes, closesPivot, none, Progress, Verdict, fine}
 use Rattle.model.specs.Check.{End, whole, broken, Chain, chainAfter, chain, nextOf, recordAt, before}
-use Rattle.model.specs.Check.{kindOf, isSweep, belongs, formed, inOrder, allowed, onward, complete, checkLinks, check, begun, word}
+use Rattle.model.specs.Check.{kindOf, isSweep, belongs, formed, inOrder, allowed, onward, complete, checkLinks, checkFrom, check, begun, word}
 use Rattle.model.specs.Arith.{Answer, number, overflow, zeroDivisor, clean, quotient, isFinite, vanishes, isSmall}
 use Rattle.model.specs.Formula.{C, Y, X, entry, less}
 use Rattle.model.specs.Sweep.{bareFrom, bare, Once, swept, ends, Sweeps, settled, unsettled, ended, sweeping, moved, mostSweeps, loaded}
 use Rattle.model.specs.Run.{State, Outcome, solution, refusedBy, unsettledAt, startedOn, fresh, Stepped, going, stop}
 use Rattle.model.specs.Run.{closing, subtracted, dividedBy, settledStep, step, Followed, through, halted, follow, followed}
 use Rattle.model.specs.Run.{onceMore, onlyX, sweptOver, notFinite, checkValues, ran, Reply, solves, stops, refuses, reply}
+use Rattle.model.specs.Many.{sides, noneRun, ranMany, verdict}
 use Rattle.model.specs.Compile as Compile
 use Rattle.model.specs.Compile.{Compiled, written, Labels, good, bad, judged, Compiler, plain, compact, sweep, wanted, gap, gapAt}
 use Rattle.model.specs.Compile.{slotsBy, productsBy, recordsBy, compilesBy, compiles}
@@ -34,6 +35,7 @@ use Rattle.model.proofs.Plans.{missing-free}
 use Rattle.model.proofs.Compiles.{orderedBy, admittedBy, answeredBy, compiles-is, compiles-success}
 use Rattle.model.proofs.Passing.{refused-fine}
 use Rattle.model.proofs.Runs.{gated-each, values-each, lengthsRight, doneBy, ranBy, ran-is}
+use Rattle.model.proofs.Sides.{alongChain, lengthsFit, ownRuns, manyBy, many-is}
 use Rattle.model.proofs.Counts.{words-counted}
 use Rattle.model.proofs.Bounds.{records-at-most}
 
@@ -84,6 +86,11 @@ chain-up-to (suc d) W k h = step (eqb (nextOf W k) 0) (ltb k (nextOf W k)) (ltb 
         let r = rest (omega arith) in
         ((omega arith, r .0), r .1)
 
+-- a program's records have indices up to its record count
+chain-links-up-to : (W : List ℕ) → LinksUpTo (length W / 4) (chain W .links)
+unfolding chain
+chain-links-up-to W = chain-up-to (length W / 4) W 0 (omega arith) .0
+
 links-small : (b N n s : ℕ) (g : Progress) (ls : List Link) (e : End) → LinksUpTo b ls → EndUpTo b e → SmallVerdict b (checkLinks N n s g ls e)
 unfolding checkLinks
 links-small b N n s g [] whole ls e = step (complete N s g)
@@ -112,11 +119,11 @@ links-small b N n s g (l ∷ ls) end (h, hs) e =
     step true true true r = r
 
 -- a program's record count bounds what its check answers
-pub check-small : (W : List ℕ) → SmallVerdict (length W / 4) (check W)
-unfolding check chain
-check-small W =
+pub check-from-small : (least : ℕ) (W : List ℕ) → SmallVerdict (length W / 4) (checkFrom least W)
+unfolding checkFrom chain
+check-from-small least W =
     step (ltb 0 (length W) && (eqb (length W % 4) 0 && leb (length W / 4) 100000000))
-    (isOrder (word W 0) && (leb (word W 1) (word W 0 * word W 0) && leb (word W 2) (word W 0 * word W 0)))
+    (isOrder (word W 0) && (leb (word W 1) (word W 0 * word W 0) && (leb least (word W 2) && leb (word W 2) (word W 0 * word W 0))))
     (chain-up-to (length W / 4) W 0 (omega arith))
   where
     linked : Chain
@@ -131,6 +138,10 @@ check-small W =
     step false h up = omega arith
     step true false up = omega arith
     step true true up = links-small (length W / 4) (word W 0) (word W 1) (word W 2) begun (linked .links) (linked .end) (up .0) (up .1)
+
+pub check-small : (W : List ℕ) → SmallVerdict (length W / 4) (check W)
+unfolding check
+check-small W = check-from-small 0 W
 
 pub check-file-small : (bytes : List ℕ) → SmallVerdict (length bytes) (checkFile bytes)
 unfolding checkFile
@@ -371,8 +382,13 @@ values-small A B limit r d =
     at : (n k : ℕ) → Small (1 + length A + length B) n k → Check.refusal n k ≡ Check.refusal r d → Small (1 + length A + length B) r d
     at n k small e = let same : n ≡ r = cc in let same-detail : k ≡ d = cc in omega arith
 
+-- what a side ends in that goes along the chain
+pub along-small : (W : List ℕ) (A : List Float) (limit : Float) (b : List Float) → SmallReply (length W / 4) (reply (alongChain W A limit b))
+along-small W A limit b =
+    followed-small (length W / 4) _ (follow-small (length W / 4) A b limit (fresh (word W 0)) (chain W .links) (chain-links-up-to W))
+
 pub ran-small : (W : List ℕ) (A B : List Float) (limit : Float) (c y x : ℕ) → SmallReply (1 + length W + length A + length B) (reply (ran W A B limit c y x))
-unfolding ranBy reply chain doneBy
+unfolding ranBy reply doneBy
 ran-small W A B limit c y x = rw (ran-is W A B limit c y x) (go (check W) (check-small W))
   where
     wider : (r : Reply) → SmallReply (length W / 4) r → SmallReply (1 + length W + length A + length B) r
@@ -380,12 +396,9 @@ ran-small W A B limit c y x = rw (ran-is W A B limit c y x) (go (check W) (check
     wider (stops r k t n) s = omega arith
     wider (refuses r d) s = omega arith
 
-    up : LinksUpTo (length W / 4) (chain W .links)
-    up = chain-up-to (length W / 4) W 0 (omega arith) .0
-
     done : (sweep : Bool) → SmallReply (length W / 4) (reply (doneBy W A B limit sweep))
-    done true = swept-small (length W / 4) A B limit (word W 0) (chain W .links) up
-    done false = followed-small (length W / 4) _ (follow-small (length W / 4) A B limit (fresh (word W 0)) (chain W .links) up)
+    done true = swept-small (length W / 4) A B limit (word W 0) (chain W .links) (chain-links-up-to W)
+    done false = along-small W A limit B
 
     go : (v : Verdict) → SmallVerdict (length W / 4) v → SmallReply (1 + length W + length A + length B) (reply (ranBy W A B limit c y x v))
     go (Check.refusal r d) s = omega arith
@@ -394,6 +407,21 @@ ran-small W A B limit c y x = rw (ran-is W A B limit c y x) (go (check W) (check
         (lengthsRight (word W 0) (word W 1) (word W 2) (length A) (length B) c y x) (checkValues A B limit)
         (doneBy W A B limit (isSweep (word W 2))) (omega arith) (λ r d e. omega (arith, values-small A B limit r d e))
         (wider (reply (doneBy W A B limit (isSweep (word W 2)))) (done (isSweep (word W 2))))
+
+-- many right sides: the call's own answer; that of each side is `along-small`'s
+pub many-small : (W : List ℕ) (count : ℕ) (A B : List Float) (limit : Float) (lc ly lx : ℕ)
+    → SmallVerdict (1 + length W + length A + length B) (verdict (ranMany W count A B limit lc ly lx))
+unfolding manyBy verdict
+many-small W count A B limit lc ly lx = rw (many-is W count A B limit lc ly lx) (go (checkFrom 1 W) (within count 64) (check-from-small 1 W))
+  where
+    go : (v : Verdict) (few : Bool) → SmallVerdict (length W / 4) v → SmallVerdict (1 + length W + length A + length B)
+        (verdict (manyBy W count A B limit lc ly lx v few (lengthsFit W count A B limit lc ly lx) (checkValues A B limit)))
+    go (Check.refusal r d) few s = omega arith
+    go fine false s = omega arith
+    go fine true s =
+        gated-each (noneRun 14 0) noneRun (λ o. SmallVerdict (1 + length W + length A + length B) (verdict o))
+        (lengthsFit W count A B limit lc ly lx) (checkValues A B limit) (sides (ownRuns W count A B limit lc ly lx))
+        (omega arith) (λ r d e. omega (arith, values-small A B limit r d e)) tt
 
 -- ---- compiling and running
 

@@ -1,4 +1,5 @@
--- Document 01's "Known plans and values" and its listing, and values for document 02's A.1, A.5, A.7 and A.11, as one theorem about the definitions.
+-- Document 01's "Known plans and values" and its listing, and values for document 02's A.1, A.5, A.6, A.7 and A.11, as one theorem about the
+-- definitions.
 use Prim.Native.Nat.{ℕ, _*_}
 use mathlib.Core.Bool.{true, false}
 use mathlib.Core.Path.{_≡_, refl}
@@ -19,8 +20,10 @@ use Rattle.model.specs.Compact.{needed, afterRecord, unnamed, renamed, c
 use Rattle.model.specs.Sweep.{rowFormula, rowFormulas, plannedRows, denseRows, sweepRecord, sweepRecords, compiledSweep, bareFrom, bare}
 use Rattle.model.specs.Sweep.{positionNumbers, movesMore, moved, sweeping, fullTable, settles, refusedAt, unsettles, denseOnce, denseSweep}
 use Rattle.model.specs.Compile.{written, refusal, judged, compact, sweep, orderly, admits, compilesBy, compiles, slotNumbers, workLeft, workAfterBy}
-use Rattle.model.specs.Check.{chainAfter, chain, kindOf, belongs, formed, inOrder, inTurn, inRow, allowed, complete, checkLinks, check}
+use Rattle.model.specs.Check.{chainAfter, chain, kindOf, belongs, formed, inOrder, inTurn, inRow, allowed, complete, checkLinks, checkFrom, check}
 use Rattle.model.specs.Run.{Outcome, solution, stopped, refusedBy, unsettledAt, step, follow, followed, notFinite, checkValues, sweptOver, ran}
+use Rattle.model.specs.Run.{solves, stops, reply, leaves}
+use Rattle.model.specs.Many.{parts, Outcomes, noneRun, ranMany, readBy, read, each, replies, sharedC, leavesMany}
 
 abbrev int : ℕ → Float
 int n = ofInt binary64 (pos n)
@@ -182,6 +185,13 @@ flat = record { order = 2; c = e₃₀₀ ∷ plusZero ∷ plusZero ∷ plusOne 
 abbrev onlyLast : Tables
 onlyLast = record { order = 2; c = int 4 ∷ []; y = ints (1 ∷ 3 ∷ []); x = ints (1 ∷ 3 ∷ []) }
 
+-- right sides for the plan 1 4 of order 2, with lent Y and X of so many rows
+abbrev many₂ : ℕ → List Float → List Float → ℕ → Outcomes
+many₂ count A B rows = ranMany (compiled 2 diagonal₂) count A B plusZero 2 rows rows
+
+abbrev threeSides : Outcomes
+threeSides = many₂ 3 (tiny ∷ int 1 ∷ []) (int 1 ∷ int 1 ∷ huge ∷ int 1 ∷ int 5 ∷ int 6 ∷ []) 6
+
 pub record Known : Type 0 where
   p1 : (label 6 5 2 ≡ 15) × (label 6 1 6 ≡ 11) × (label 6 6 6 ≡ 36) × (place 6 15 ≡ (5, 2)) × (place 6 11 ≡ (1, 6)) × (place 6 36 ≡ (6, 6))
   p2 : compiles 2 (1 ∷ 2 ∷ 3 ∷ []) 4 92 ≡ written 4 3 23
@@ -255,6 +265,19 @@ pub record Known : Type 0 where
   s8 : (compilesBy sweep 2 (1 ∷ 2 ∷ 3 ∷ []) 4 36 ≡ refusal 26 2)
       × (workAfterBy sweep 2 (1 ∷ 2 ∷ 3 ∷ []) (replicate 5 9) 36 ≡ 0 ∷ 0 ∷ 0 ∷ 0 ∷ 9 ∷ [])
       × (workAfterBy sweep 2 (1 ∷ 3 ∷ 4 ∷ []) (replicate 5 9) 36 ≡ 1 ∷ 0 ∷ 2 ∷ 3 ∷ 9 ∷ [])
+  -- A.6: right sides that are all refused, each at its own record, and C; right sides of which one is refused, and C, Y and X; a program of sweeps, 0 and 65
+  -- right sides, lengths of one right side for two, and a value that is not finite in the second one
+  m1 : (replies (compiled 2 diagonal₂) (many₂ 2 (tiny ∷ tiny ∷ []) (int 1 ∷ huge ∷ huge ∷ int 1 ∷ []) 4) ≡ each 9 (stops 16 9 2 2 ∷ stops 16 4 2 1 ∷ []))
+      × (leavesMany (many₂ 2 (tiny ∷ tiny ∷ []) (int 1 ∷ huge ∷ huge ∷ int 1 ∷ []) 4) 2 C (ints (7 ∷ 7 ∷ [])) ≡ plusZero ∷ plusZero ∷ [])
+  m2 : (replies (compiled 2 diagonal₂) threeSides ≡ each 14 (solves 0 2 0 0 ∷ stops 16 4 2 1 ∷ solves 0 2 0 0 ∷ []))
+      × (leavesMany threeSides 2 C (ints (7 ∷ 7 ∷ [])) ≡ tiny ∷ int 1 ∷ [])
+      × (leavesMany threeSides 2 Y (replicate 6 half) ≡ huge ∷ int 1 ∷ plusZero ∷ plusZero ∷ fin false 5 (pos 1000) ∷ int 6 ∷ [])
+      × (leavesMany threeSides 2 X (replicate 6 half) ≡ huge ∷ int 1 ∷ plusZero ∷ plusZero ∷ fin false 5 (pos 1000) ∷ int 6 ∷ [])
+  m3 : (ranMany (compiledSweep 2 full₂) 0 [] [] minusOne 0 0 0 ≡ noneRun 8 0)
+      × (many₂ 0 [] [] 0 ≡ noneRun 25 0)
+      × (many₂ 65 [] [] 0 ≡ noneRun 25 0)
+      × (many₂ 2 (ints (1 ∷ 1 ∷ [])) (ints (1 ∷ 1 ∷ [])) 2 ≡ noneRun 14 0)
+      × (many₂ 2 (ints (1 ∷ 1 ∷ [])) (int 1 ∷ int 1 ∷ inf false ∷ int 1 ∷ []) 4 ≡ noneRun 15 3)
   -- the listing for input `1 1`, a record a line
   listing : compiled 1 one
       ≡ 1 ∷ 1 ∷ 1 ∷ 1
@@ -277,7 +300,8 @@ unfolding rising falling joined kept total some count label column row places pl
     rowFormula rowFormulas plannedRows denseRows sweepRecord sweepRecords compiledSweep bareFrom bare positionNumbers
     movesMore moved sweeping fullTable denseOnce denseSweep
     judged orderly admits compilesBy slotNumbers workLeft workAfterBy
-    chainAfter chain kindOf belongs formed inOrder inTurn inRow allowed complete checkLinks check step follow followed notFinite checkValues sweptOver ran
+    chainAfter chain kindOf belongs formed inOrder inTurn inRow allowed complete checkLinks checkFrom check step follow followed notFinite checkValues sweptOver ran
+    reply leaves parts ranMany readBy read replies sharedC leavesMany
     mul sub div neg lt eq le ofInt
 known = record {
   p1 = (refl, refl, refl, refl, refl, refl);
@@ -316,5 +340,8 @@ known = record {
   s6 = refl;
   s7 = refl;
   s8 = (refl, refl, refl);
+  m1 = (refl, refl);
+  m2 = (refl, refl, refl, refl);
+  m3 = (refl, refl, refl, refl, refl);
   listing = refl;
 }

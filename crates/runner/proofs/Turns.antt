@@ -72,7 +72,7 @@ module _ (W : List ℕ) (A B : List Float) (limit : Float) (sweep : Bool) (z₀ 
 
 -- ---- the start
 
-first-inside : (W : List ℕ) → Passed W → 0 < length W / 4
+first-inside : (W : List ℕ) → Passed 0 W → 0 < length W / 4
 first-inside W passed = omega (arith, passed .some, passed .fours)
 
 pub fresh-state : (c y x : List Float) → stateOf unopened c y x ≡ Run.fresh (length x)

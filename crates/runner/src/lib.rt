@@ -96,7 +96,7 @@ fn lengths_fit(words: &[u32], a: usize, b: usize, c: usize, y: usize, x: usize) 
 }
 
 // 15, in A, then in B, and then 21.
-fn check_values(a: &[f64], b: &[f64], limit: f64) -> Checked
+pub fn check_values(a: &[f64], b: &[f64], limit: f64) -> Checked
     ensures { λ r. ⌜ verdictOf r ≡ Run.checkValues (now (a .entry)) (now (b .entry)) limit ⌝ }
 {
     let in_a = first_not_finite(a);
@@ -364,7 +364,7 @@ fn first_not_finite(values: &[f64]) -> usize
 }
 
 // All +0.
-fn clear(values: &mut [f64])
+pub fn clear(values: &mut [f64])
     ensures { λ r. ⌜ now (values .exit) ≡ replicate (length (now (values .entry))) plusZero ⌝ }
 {
     for i in 0..values.len() {

@@ -2,4 +2,4 @@
 pub mod Tables
 pub mod Steps
 mod Rows
-mod Arms
+pub mod Arms

@@ -142,7 +142,7 @@ impl State {
 }
 
 // The k-th value, from 1.
-fn entry(values: &[f64], k: u32) -> f64
+pub fn entry(values: &[f64], k: u32) -> f64
     requires { ⌜ (0 < k) × (k ≤ length (now values)) ⌝ }
     ensures { λ r. ⌜ r ≡ getD (now (values .entry)) (k - 1) plusZero ⌝ }
 {

@@ -34,7 +34,7 @@ fits : (c : tie.Else1) → countFits (length (program (entry (c .before)))) ≡ 
 fits c = seven (c .before) ∙ not-false _ (c .if1 .left)
 
 returns : tie.Need-returns
-returns c = refused-7 (program (entry (c .before))) (seven (c .before) ∙ not-true _ (c .if1 .taken))
+returns c = refused-7 _ (program (entry (c .before))) (seven (c .before) ∙ not-true _ (c .if1 .taken))
 
 record-at-requires : tie.Need-record-at-requires
 record-at-requires c κs = omega (arith, count-true (length (program (entry (c .before)))) (fits c))
@@ -52,7 +52,7 @@ head-fits-requires c κs = search needs
 returns-2 : tie.Need-returns-2
 returns-2 c =
     let h = c .before .before in
-    refused-8 _ _ (head h) (fits (counted h)) (sym (c .before .head-fits .ensures) ∙ not-true _ (c .if2 .taken))
+    refused-8 _ _ _ (head h) (fits (counted h)) (sym (c .before .head-fits .ensures) ∙ not-true _ (c .if2 .taken))
 
 follow-requires : tie.Need-follow-requires
 follow-requires c κs =
@@ -63,7 +63,7 @@ returns-3 : tie.Need-returns-3
 returns-3 c =
     let h = c .before .before .before in
     c .follow .ensures
-    ∙ chain-checked _ _ (head h) (fits (counted h)) (sym (c .before .before .head-fits .ensures) ∙ not-false _ (c .before .if2 .left))
+    ∙ chain-checked _ _ _ (head h) (fits (counted h)) (sym (c .before .before .head-fits .ensures) ∙ not-false _ (c .before .if2 .left))
 
 pub check-either-spec : {M : Type 1} → statement M
 check-either-spec =
