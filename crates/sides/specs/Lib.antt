@@ -1,0 +1,3 @@
+-- What the contracts of `sides` cite.
+pub mod Cells
+pub mod Standing
