@@ -1,4 +1,5 @@
-# make demo      the examples: four texts compiled, filed, checked and run, and a large site solved by Crout and by sweeps
+# make demo      the examples: four texts compiled, filed, checked and run, a large site solved by Crout and by sweeps, and forty weather
+#                cases solved by one call
 # make pictures  docs/pictures, drawn anew
 # make test      the gate
 # make bench     the exported functions beside plain Rust
@@ -16,12 +17,13 @@ HEADERS = include/crout.h $(wildcard examples/*.h)
 
 .PHONY: demo pictures test bench clean
 
-demo: build/sheet build/site
+demo: build/sheet build/site build/weather
 	build/sheet examples/document002.txt build/document002.crout
 	build/sheet examples/heating.txt build/heating.crout
 	build/sheet examples/nearly_equal.txt build/nearly_equal.crout
 	build/sheet examples/looks_cut_off.txt build/looks_cut_off.crout
 	build/site
+	build/weather
 
 pictures: docs/pictures/document002.svg docs/pictures/grid.svg
 
@@ -36,7 +38,7 @@ test:
 bench: $(LIBRARY)
 	tests/cargo run --offline --release --manifest-path bench/Cargo.toml
 
-build/sheet build/spy build/site: build/%: build/%.o $(SHARED) $(LIBRARY)
+build/sheet build/spy build/site build/weather: build/%: build/%.o $(SHARED) $(LIBRARY)
 	$(CC) $(LDFLAGS) $^ -o $@
 
 build/%.o: examples/%.c $(HEADERS) Makefile

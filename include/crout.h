@@ -5,8 +5,8 @@
    slice of no entries still has a pointer that isn't null.
 
    A call that can refuse returns 0, or the refusal's number times 2^32 plus its detail, and puts its further numbers into out,
-   three of them, or four where a limit is taken, zeros where none is named. crout_refusal and crout_detail split what was returned,
-   crout_refusal_text says it.
+   three of them, four where a limit is taken, 257 for many right sides, zeros where none is named. crout_refusal and crout_detail
+   split what was returned, crout_refusal_text says it.
 
    The header is C99 and C++. examples/ has programs that call it. */
 #ifndef CROUT_H
@@ -42,6 +42,7 @@ enum crout_refusal_number {
     CROUT_OUTPUT_SHORT = 19, /* the entries needed */
     CROUT_LISTING_TEXT = 20, /* the listing program's alone: the position in its input, in bytes from 1 */
     CROUT_LIMIT = 21,
+    CROUT_SIDES = 25,
     CROUT_DIAGONAL_MISSING = 26, /* the first row r whose place (r, r) is not in the plan */
     CROUT_UNSETTLED = 27
 };
@@ -98,7 +99,8 @@ static inline const char *crout_refusal_text(uint32_t number) {
                "the program is cut off or damaged; fetch it or compile the plan again";
     case CROUT_LENGTHS:
         return "a slice has not the length that the program wants: "
-               "lend a, b, c, y and x with as many entries as words 1, 0, 2, 0 and 0 say, and y with none if word 2 is 0";
+               "lend a, b, c, y and x with as many entries as words 1, 0, 2, 0 and 0 say, and y with none if word 2 is 0; "
+               "for many right sides b, y and x with so many for each";
     case CROUT_NOT_FINITE:
         return "a coefficient or a right side is infinite or not a number: correct the one at the position that the detail gives, "
                "in a, or if all of a is finite in b";
@@ -117,6 +119,8 @@ static inline const char *crout_refusal_text(uint32_t number) {
     case CROUT_LIMIT:
         return "the limit for pivots, or a sweep's tolerance, is negative, infinite or not a number: "
                "give 0, or the size up to which a pivot counts as zero or an entry as settled";
+    case CROUT_SIDES:
+        return "the number of right sides is outside 1 to 64: run them in calls of at most 64";
     case CROUT_DIAGONAL_MISSING:
         return "a row has no diagonal coefficient, so it cannot be swept: put the place (r, r) into the plan, r being the detail, "
                "or compile the plan for Crout";
@@ -177,6 +181,19 @@ uint64_t crout_run_limit(const uint32_t *words, size_t words_len, const double *
    the target's number, 0. Refusals 7 to 17, and 27 for sweeps. */
 uint64_t crout_run(const uint32_t *words, size_t words_len, const double *a, size_t a_len, const double *b, size_t b_len,
                    double *c, size_t c_len, double *y, size_t y_len, double *x, size_t x_len, uint64_t out[3]);
+
+/* Runs a Crout program on coefficients a and on count right sides, 1 to 64, in one pass along its records: b, y and x have the sides'
+   parts one after another, n entries each, c is shared. Each side ends as crout_run_limit would end it alone, and a refusal ends no
+   side but its own.
+   out: the records read, all of the chain if a side is solved, else up to the last one that refused a side, record 0 not counted;
+   then four numbers for each side, its answer and its numbers: 0, products, quotients, products that vanished, or 16 or 17 times 2^32
+   plus the record, the table, the target's number, 0; zeros for the sides past count. A side that is refused has its parts of y and x
+   set to 0; c holds its values if a side is solved, else 0.
+   What is returned is the call's own answer: 0 if the sides were run, also if all of them are refused; else 7 to 13, 8 for a program
+   of sweeps too, 25, 14, 15 with the position in the whole of a or of b, or 21. */
+uint64_t crout_run_many(const uint32_t *words, size_t words_len, uint32_t count, const double *a, size_t a_len, const double *b,
+                        size_t b_len, double limit, double *c, size_t c_len, double *y, size_t y_len, double *x, size_t x_len,
+                        uint64_t out[257]);
 
 /* Compiles a plan and runs the program: crout_compile, then crout_run_limit on the program's words. Refusals 1 to 6, 14 to 17 and 21;
    out as crout_run_limit's. */

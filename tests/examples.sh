@@ -50,7 +50,7 @@ g++ -std=c++11 "${strict[@]}" -x c++ tests/c/texts.c -o $at/texts_cpp
 $at/texts_c
 $at/texts_cpp
 
-for name in sheet spy site; do
+for name in sheet spy site weather; do
     gcc -std=c11 "${strict[@]}" examples/$name.c examples/plan.c examples/plan_text.c examples/basics.c $library -o $at/$name
 done
 
@@ -80,6 +80,11 @@ says 'usage: sheet FILE.txt PROGRAM.crout' 2 $at/sheet examples/document002.txt
 same tests/examples/site.out 0 $at/site
 $at/site >/dev/full 2>$at/said && fail "site's lost output went unnoticed"
 grep -q '^standard output: ' $at/said || fail "site's lost output wasn't reported"
+
+# weather: the table of forty days, and what is said of the one that is refused
+same tests/examples/weather.out 0 $at/weather
+$at/weather >/dev/full 2>$at/said && fail "weather's lost output went unnoticed"
+grep -q '^standard output: ' $at/said || fail "weather's lost output wasn't reported"
 
 # spy: the stored pictures, and a plan of the largest order
 same docs/pictures/document002.svg 0 $at/spy examples/document002.txt

@@ -1,7 +1,8 @@
 //! The exported functions beside plain Rust: a line for each case with the best times in microseconds, their ratio, and the
 //! nanoseconds for each record (and, for a run, each product), ours first. Beside a run stand dense Crout and, where it is
-//! installed, KLU, and beside the compact program ours of the plain one. Sweeps stand beside one Crout run of the same system, on some
-//! networks and then on grids of rising orders. The callers take turns, and what they may write is cleared before each timing.
+//! installed, KLU, and beside the compact program ours of the plain one. Many right sides at once stand beside as many runs. Sweeps stand
+//! beside one Crout run of the same system, on some networks and then on grids of rising orders. The callers take turns, and what they may
+//! write is cleared before each timing.
 //!
 //! The last table has the time of a run against the order. `--csv FILE` and `--plot FILE` write it as CSV and as a picture; with
 //! `growth` nothing else is measured.
@@ -23,6 +24,7 @@ mod klu;
 #[cfg(not(klu))]
 #[path = "klu_absent.rs"]
 mod klu;
+mod many;
 mod plain;
 mod plot;
 mod run;
@@ -83,6 +85,8 @@ fn beside() {
     cases.into_iter().for_each(run::run);
     table::head("run compact", &run::COMPACT_COLUMNS);
     cases.into_iter().for_each(run::compact);
+    table::head("many right sides", &many::COLUMNS);
+    [&large, &grid].into_iter().for_each(many::many);
     table::head("sweeps", &sweep::COLUMNS);
     sweep::sweeps();
     sweep::searches();

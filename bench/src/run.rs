@@ -18,14 +18,24 @@ pub const COLUMNS: [&str; 6] = ["ns/product", "(plain)", "dense us", "times ours
 pub const COMPACT_COLUMNS: [&str; 2] = ["run us", "ratio"];
 
 /// The slices that a run may write.
-struct Tables {
-    c: Vec<f64>,
-    y: Vec<f64>,
-    x: Vec<f64>,
+pub struct Tables {
+    pub c: Vec<f64>,
+    pub y: Vec<f64>,
+    pub x: Vec<f64>,
 }
 
 impl Tables {
-    fn clear(&mut self) {
+    /// With so many entries in C, and in Y and X.
+    pub fn new(slots: usize, rows: usize) -> Self {
+        Self { c: vec![0.0; slots], y: vec![0.0; rows], x: vec![0.0; rows] }
+    }
+
+    /// The bits of C, Y and X.
+    pub fn bits(&self) -> [Vec<u64>; 3] {
+        [bits(&self.c), bits(&self.y), bits(&self.x)]
+    }
+
+    pub fn clear(&mut self) {
         [&mut self.c, &mut self.y, &mut self.x].into_iter().for_each(|table| table.fill(0.0));
     }
 }
@@ -60,7 +70,7 @@ impl<'a> Run<'a> {
     pub fn new(case: &'a Case) -> Self {
         let n = case.n as usize;
         let dense = Dense::new(case.n, &case.plan);
-        let tables = RefCell::new(Tables { c: vec![0.0; case.slots], y: vec![0.0; n], x: vec![0.0; n] });
+        let tables = RefCell::new(Tables::new(case.slots, n));
         let square = RefCell::new(Square { table: dense.table(), x: vec![0.0; n] });
         let run = Self { case, dense, tables, square, klu: Klu::new(case).map(RefCell::new) };
         run.compare();
@@ -70,8 +80,7 @@ impl<'a> Run<'a> {
     /// The bits of C, Y and X after a call.
     fn solution(&self, caller: Caller) -> [Vec<u64>; 3] {
         caller();
-        let to = self.tables.borrow();
-        [bits(&to.c), bits(&to.y), bits(&to.x)]
+        self.tables.borrow().bits()
     }
 
     /// Each caller once, and that all have the solution: to the bit, but for KLU, which has another order.

@@ -1,7 +1,8 @@
 /* Every function of crout.h, called as a C program calls them, on the known plans and values. The first difference ends the program
    with a message and status 1.
 
-   GROUPS says how many groups of functions the library has: 1 labels, 2 compile, 3 check, write and read, 4 run and solve. */
+   GROUPS says how many groups of functions the library has: 1 labels, 2 compile, 3 check, write and read, 4 run and solve, 5 run many
+   right sides. */
 #include "crout.h"
 
 #include <stdio.h>
@@ -9,7 +10,7 @@
 #include <string.h>
 
 #ifndef GROUPS
-#define GROUPS 4
+#define GROUPS 5
 #endif
 
 #define COUNT(row) (sizeof(row) / sizeof((row)[0]))
@@ -350,6 +351,102 @@ static void document_002(void) {
 }
 
 #endif
+#if GROUPS >= 5
+
+/* Y and X of 64 right sides of order 2, and one entry past them. */
+static double many_y[129], many_x[129];
+
+static void dirty_many(uint64_t out[257]) {
+    size_t k;
+    dirty();
+    for (k = 0; k < COUNT(many_x); k++)
+        many_y[k] = many_x[k] = 7;
+    for (k = 0; k < 257; k++)
+        out[k] = 7;
+}
+
+/* Runs the plan 1 4 of order 2 on so many right sides, with slices for as many as are lent. */
+static uint64_t ran_many(uint32_t count, const double *a, const double *b, size_t lent, double limit, uint64_t out[257]) {
+    const uint32_t plan[] = {1, 4};
+    uint64_t compiler[3];
+    expect(compiled(2, plan, 2, 4, 60, compiler) == 0, "the plan of two pivots");
+    dirty_many(out);
+    return crout_run_many(words, 60, count, a, 2, b, 2 * lent, limit, c, 2, many_y, 2 * lent, many_x, 2 * lent, out);
+}
+
+static int side_is(const uint64_t out[257], size_t side, uint64_t answer, uint64_t first, uint64_t second, uint64_t third) {
+    return out[4 * side + 1] == answer && same_numbers(out + 4 * side + 2, first, second, third);
+}
+
+/* Whether the numbers are 0 from this one on. */
+static int zeros_from(const uint64_t out[257], size_t first) {
+    size_t k = first;
+    while (k < 257 && out[k] == 0)
+        k++;
+    return k == 257;
+}
+
+static void known_sides(void) {
+    const double tiny = 0x1p-1000, huge = 0x1p1000, tiny_ones[] = {0x1p-1000, 0x1p-1000}, both[] = {0x1p-1000, 1}, zeros[6] = {0};
+    double b[6] = {1, 0, 0, 1, 5, 6}, solved[6] = {0, 1, 0, 0, 0, 6};
+    uint64_t out[257];
+    b[1] = b[2] = huge;
+    expect(ran_many(2, tiny_ones, b, 2, 0, out) == 0 && out[0] == 9, "two sides, both refused");
+    expect(side_is(out, 0, refusal(16, 9), 2, 2, 0) && side_is(out, 1, refusal(16, 4), 2, 1, 0) && zeros_from(out, 9), "16 of two sides");
+    expect(same_values(c, zeros, 2) && same_values(many_y, zeros, 4) && same_values(many_x, zeros, 4), "the tables of two refused sides");
+    b[1] = 1;
+    solved[0] = 1 / tiny;
+    solved[4] = 5 / tiny;
+    expect(ran_many(3, both, b, 3, 0, out) == 0 && out[0] == 14, "three sides, one of them refused");
+    expect(side_is(out, 0, 0, 0, 2, 0) && side_is(out, 1, refusal(16, 4), 2, 1, 0) && side_is(out, 2, 0, 0, 2, 0), "three answers");
+    expect(zeros_from(out, 13) && same_values(c, both, 2) && c[2] == 7, "the numbers and C of three sides");
+    expect(same_values(many_y, solved, 6) && same_values(many_x, solved, 6) && many_y[6] == 7 && many_x[6] == 7, "Y and X of three sides");
+}
+
+static void sixty_four_sides(void) {
+    const double a[] = {2, 4}, singular[] = {2, 0.5};
+    double b[130];
+    uint64_t out[257];
+    size_t k;
+    for (k = 0; k < COUNT(b); k++)
+        b[k] = (double)k;
+    expect(ran_many(64, a, b, 64, 0.5, out) == 0 && out[0] == 14, "64 sides");
+    for (k = 0; k < 64; k++)
+        expect(side_is(out, k, 0, 0, 2, 0) && many_x[2 * k] == b[2 * k] / 2 && many_x[2 * k + 1] == b[2 * k + 1] / 4, "one of 64 sides");
+    expect(many_y[128] == 7 && many_x[128] == 7, "values past 64 sides");
+    expect(ran_many(64, singular, b, 64, 0.5, out) == 0 && out[0] == 7, "64 sides with a pivot within the limit");
+    for (k = 0; k < 64; k++)
+        expect(side_is(out, k, refusal(17, 7), 1, 2, 0), "17 of one of 64 sides");
+    expect(c[0] == 0 && many_y[127] == 0 && many_x[127] == 0 && many_x[128] == 7, "the tables of 64 refused sides");
+}
+
+/* Whether a call was refused so, and left zeros in out and all else as it was. */
+static int refused_many(uint64_t answer, uint32_t number, uint32_t detail, const uint64_t out[257]) {
+    return answer == refusal(number, detail) && zeros_from(out, 0) && c[0] == 7 && many_y[0] == 7 && many_x[0] == 7;
+}
+
+static void refused_sides(void) {
+    const uint32_t plan[] = {1, 2, 3, 4};
+    const double a[] = {2, 4, 1, 4};
+    double b[130] = {0}, infinite = 0x1p1000;
+    uint64_t out[257], compiler[3];
+    infinite *= infinite;
+    b[5] = infinite;
+    expect(refused_many(ran_many(0, a, b, 0, -1, out), 25, 0, out), "25, no side");
+    expect(refused_many(ran_many(65, a, b, 65, -1, out), 25, 0, out), "25, 65 sides");
+    expect(refused_many(ran_many(UINT32_MAX, a, b, 1, -1, out), 25, 0, out), "25 before 14");
+    expect(refused_many(ran_many(3, a, b, 1, -1, out), 14, 0, out), "14, slices for one of three sides");
+    expect(refused_many(ran_many(3, a, b, 3, -1, out), 15, 6, out), "15 before 21, in the third side");
+    b[5] = 6;
+    expect(refused_many(ran_many(3, a, b, 3, -1, out), 21, 0, out), "21 of three sides");
+    dirty_many(out);
+    expect(refused_many(crout_run_many(words, 59, 0, a, 2, b, 6, -1, c, 2, many_y, 6, many_x, 6, out), 7, 0, out), "7 before 25");
+    expect(swept(plan, 4, 4, 36, compiler) == 0, "a sweep for many sides");
+    dirty_many(out);
+    expect(refused_many(crout_run_many(words, 36, 0, a, 4, b, 6, 0, c, 0, many_y, 0, many_x, 6, out), 8, 0, out), "8 of a sweep");
+}
+
+#endif
 
 int main(void) {
     labels();
@@ -370,6 +467,11 @@ int main(void) {
     ran_compact();
     ran_sweeps();
     document_002();
+#endif
+#if GROUPS >= 5
+    known_sides();
+    sixty_four_sides();
+    refused_sides();
 #endif
     return 0;
 }

@@ -1,4 +1,4 @@
-//! The compilers, the checker, the runner and the file's writer and reader as one would write them in plain Rust, with the same
+//! The compilers, the checker, the runners and the file's writer and reader as one would write them in plain Rust, with the same
 //! checks and operations; and dense Crout.
 
 pub mod check;
@@ -6,6 +6,7 @@ pub mod compact;
 pub mod compile;
 pub mod dense;
 pub mod file;
+pub mod many;
 pub mod run;
 pub mod sweep;
 #[cfg(test)]

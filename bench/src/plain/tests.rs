@@ -2,12 +2,13 @@
 
 use std::collections::BTreeSet;
 
+use crout_tests::calls::{self, Answer};
 use crout_tests::networks::{self, SHAPES, VALUES};
 use crout_tests::random::Random;
 use crout_tests::reading::dense::At;
 use crout_tests::{programs, reading};
 
-use super::{Refusal, check, compact, compile, dense, file, run};
+use super::{Refusal, check, compact, compile, dense, file, many, run};
 
 /// A call that compiles: order, plan, work numbers and words.
 type Call<T> = fn(u32, &[u32], &mut [u32], &mut [u32]) -> Result<T, Refusal>;
@@ -164,6 +165,46 @@ fn the_same_runner() {
 #[test]
 fn the_same_sweeps() {
     assert_eq!(compare_runners(sweep_program, 9), BTreeSet::from([0, 8, 9, 10, 11, 12, 13, 14, 15, 16, 17, 21, 27]));
+}
+
+/// Both runners of many right sides on programs of one kind; the numbers of the refusals that they met, of the call or of a side, 0 for
+/// none.
+fn compare_sides(program: fn(&mut Random) -> Vec<u32>, seed: u64) -> BTreeSet<u32> {
+    let random = &mut Random(seed);
+    let mut met = BTreeSet::new();
+    for _ in 0..20_000 {
+        let words = program(random);
+        let [n, plan, s] = [words[0], words[1], words[2]].map(|len| len.min(2000) as usize);
+        let count = if random.chance(0.9) { 1 + random.below(4) } else { random.below(66) };
+        let a = VALUES[random.below(VALUES.len())].row(plan, random);
+        let mut b: Vec<f64> = (0..count).flat_map(|_| VALUES[random.below(VALUES.len())].row(n, random)).collect();
+        b.iter_mut().rev().take(1).filter(|_| random.chance(0.02)).for_each(|value| *value = f64::NAN);
+        let mut tables = [vec![7.0; s], vec![7.0; b.len()], vec![7.0; b.len() + usize::from(random.chance(0.02))]];
+        let (mut read_tables, mut out) = (tables.clone(), [7; 257]);
+        let [c, y, x] = &mut tables;
+        let limit = networks::any_limit(&a, random);
+        let returned = match many::run(&words, count as u32, &a, &b, limit, c, y, x, &mut out) {
+            Ok(()) => 0,
+            Err((number, detail)) => calls::refused(number, detail),
+        };
+        let [c, y, x] = &mut read_tables;
+        let (read, answer) = (reading::many::run(&words, count as u32, &a, &b, limit, c, y, x), Answer { returned, out });
+        assert_eq!(answer, read.into(), "{words:?} {count} {a:?} {b:?} {limit:e}");
+        assert_eq!(bits(&tables), bits(&read_tables), "{words:?} {count} {a:?} {b:?} {limit:e}");
+        match answer.number() {
+            0 => met.extend((0..count).map(|side| answer.side(side).number())),
+            number => _ = met.insert(number),
+        }
+    }
+    met
+}
+
+#[test]
+fn the_same_sides() {
+    assert_eq!(compare_sides(crout_program, 10), BTreeSet::from([0, 8, 9, 10, 11, 12, 13, 14, 15, 16, 17, 21, 25]));
+    // a few get slots by damage
+    let of_sweeps = compare_sides(sweep_program, 11);
+    assert!(of_sweeps.iter().all(|number| (8..=13).contains(number)), "{of_sweeps:?}");
 }
 
 /// The rows of dense Crout's table and x as the reading has them: l and u by label, y and x.

@@ -1,11 +1,13 @@
 // Answers as numbers: a refusal and its detail as one, and three or four further numbers in a lent array.
+use checker::Checked;
 use codec::Filing;
 use compiler::Compilation;
 use runner::Outcome;
 ghost use mathlib.Core.Path.{_≡_};
 ghost use Prim.Native.Nat.{_<_, _^_};
-ghost use Rattle.model.specs.Boundary.{refusalNumber, compiledNumber, compiledNumbers, filedNumber, filedNumbers};
+ghost use Rattle.model.specs.Boundary.{refusalNumber, verdictNumber, compiledNumber, compiledNumbers, filedNumber, filedNumbers};
 ghost use Rattle.model.specs.Boundary.{replyNumber, replyNumbers, limitNumbers};
+ghost use Rattle.checker.specs.Checked.{verdictOf};
 ghost use Rattle.compiler.specs.Compilation.{compiledOf};
 ghost use Rattle.codec.specs.Filing.{filedOf};
 ghost use Rattle.runner.specs.Outcome.{replyOf};
@@ -16,6 +18,17 @@ pub fn refusal(number: u32, detail: u64) -> u64
     ensures { λ r. ⌜ r ≡ refusalNumber number detail ⌝ }
 {
     number as u64 * 4294967296 + detail
+}
+
+// A check's answer.
+pub fn verdict_answer(answer: Checked) -> u64
+    requires { ⌜ verdictNumber (verdictOf answer) < 2 ^ 64 ⌝ }
+    ensures { λ r. ⌜ r ≡ verdictNumber (verdictOf answer) ⌝ }
+{
+    match answer {
+        Checked::Fine => 0,
+        Checked::Refused { number, detail } => refusal(number, detail),
+    }
 }
 
 // The compiler's answer: slots, products, records.

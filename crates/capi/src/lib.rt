@@ -1,23 +1,24 @@
-// The functions exported for C: document 01, "The C boundary"; document 02, A.1, A.7 and A.11. The header is include/crout.h.
+// The functions exported for C: document 01, "The C boundary"; document 02, A.1, A.6, A.7 and A.11. The header is include/crout.h.
 mod answers;
 
 use answers::compile_answer;
 use answers::file_answer;
 use answers::limit_answer;
-use answers::refusal;
 use answers::run_answer;
-use checker::Checked;
+use answers::verdict_answer;
 use labels::Located;
 ghost use mathlib.Core.Path.{_≡_};
 ghost use lib.ListN.{length};
 ghost use Rattle.model.specs.Arith.{plusZero};
 ghost use Rattle.model.specs.Compile.{compact, sweep, compiles, workAfter, compilesBy, workAfterBy, wordsAfterBy};
 ghost use Rattle.model.specs.Compile.{wordsAfter as Compile·wordsAfter};
+ghost use Rattle.model.specs.Check.{word};
 ghost use Rattle.model.specs.Formula.{C, Y, X};
+ghost use Rattle.model.specs.Many.{ranMany, verdict, replies, leavesMany};
 ghost use Rattle.model.specs.Run.{ran, reply, leaves};
 ghost use Rattle.model.specs.Solve.{solving, replied, leftIn};
 ghost use Rattle.model.specs.File.{writes, reads, bytesAfter, wordsAfter};
-ghost use Rattle.model.specs.Boundary.{labelNumber, placeNumber, checkNumber};
+ghost use Rattle.model.specs.Boundary.{labelNumber, placeNumber, checkNumber, verdictNumber, manyNumbers};
 ghost use Rattle.model.specs.Boundary.{compiledNumber, compiledNumbers, filedNumber, filedNumbers};
 ghost use Rattle.model.specs.Boundary.{replyNumber, replyNumbers, limitNumbers};
 
@@ -98,10 +99,7 @@ pub extern "C" fn crout_compile_sweep(
 pub extern "C" fn crout_check(file: &[u8]) -> u64
     ensures { λ r. ⌜ r ≡ checkNumber (now (file .entry)) ⌝ }
 {
-    match checker::check_file(file) {
-        Checked::Fine => 0,
-        Checked::Refused { number, detail } => refusal(number, detail),
-    }
+    verdict_answer(checker::check_file(file))
 }
 
 // Writes words as a program file. out: the bytes written.
@@ -166,6 +164,31 @@ pub extern "C" fn crout_run(
         × (now (x .exit) ≡ leaves end X (now (x .entry))))) ⌝ }
 {
     run_answer(runner::run(words, a, b, 0.0, c, y, x), out)
+}
+
+// Runs a Crout program on many right sides, whose b, y and x are laid one after another. out: the chained records read, then four numbers for
+// each side, its answer, 0 or 16 or 17 times 2^32 plus the record, and products, quotients, products that vanished, or table, number, 0; zeros
+// past the last side.
+#[no_mangle]
+pub extern "C" fn crout_run_many(
+    words: &[u32],
+    count: u32,
+    a: &[f64],
+    b: &[f64],
+    limit: f64,
+    c: &mut [f64],
+    y: &mut [f64],
+    x: &mut [f64],
+    out: &mut [u64; 257],
+) -> u64
+    ensures { λ r. let end = ranMany (now (words .entry)) count (now (a .entry)) (now (b .entry)) limit
+        (length (now (c .entry))) (length (now (y .entry))) (length (now (x .entry))) in
+        ⌜ ((r ≡ verdictNumber (verdict end)) × (now (out .exit) ≡ manyNumbers (replies (now (words .entry)) end)))
+        × ((now (c .exit) ≡ leavesMany end (word (now (words .entry)) 0) C (now (c .entry)))
+        × ((now (y .exit) ≡ leavesMany end (word (now (words .entry)) 0) Y (now (y .entry)))
+        × (now (x .exit) ≡ leavesMany end (word (now (words .entry)) 0) X (now (x .entry))))) ⌝ }
+{
+    verdict_answer(many::run_many(words, count, a, b, limit, c, y, x, out))
 }
 
 // Compiles a plan and runs the program. limit and out as crout_run_limit's.

@@ -1,7 +1,7 @@
 //! The exported functions as safe Rust, one file for each group of them. A group that the library lacks is left out by its
 //! line here and the file of that name in `tests/`.
 
-use crate::reading::{Refusal, plan::Written, run::Outcome};
+use crate::reading::{Refusal, many::Sides, plan::Written, run::Outcome};
 
 /// Declares exported functions by the types of what `call!` hands them: numbers, slices that they read, each as a pointer and a length,
 /// the limit, if they take one, and slices that they may write.
@@ -29,6 +29,7 @@ macro_rules! call {
 pub mod compile;
 pub mod file;
 pub mod labels;
+pub mod many;
 pub mod run;
 
 /// A refusal and its detail as one number.
@@ -37,7 +38,7 @@ pub fn refused(number: u32, detail: u64) -> u64 {
     u64::from(number) << 32 | detail
 }
 
-/// What a call that can refuse answers: the number that it returns, and the three, or four, that it puts into `out`.
+/// What a call that can refuse answers: the number that it returns, and the three, four or 257 that it puts into `out`.
 #[derive(Clone, Copy, Debug, PartialEq, Eq)]
 pub struct Answer<const K: usize = 3> {
     pub returned: u64,
@@ -75,6 +76,14 @@ impl<const K: usize> Answer<K> {
     }
 }
 
+impl Answer<257> {
+    /// What a right side is told, as a run of its own would tell it.
+    pub fn side(&self, side: usize) -> Answer<4> {
+        let four = &self.out[4 * side + 1..4 * side + 5];
+        Answer { returned: four[0], out: [four[1], four[2], four[3], 0] }
+    }
+}
+
 impl From<Result<Written, Refusal>> for Answer {
     fn from(read: Result<Written, Refusal>) -> Self {
         match read {
@@ -102,6 +111,23 @@ impl From<Outcome> for Answer<4> {
             Outcome::Stopped { number, record, table, target } => Self::stopped(number, record, [table, target, 0, 0]),
             Outcome::Refused { number, detail } => Self::refused(number, detail),
         }
+    }
+}
+
+/// That of a run of many right sides: four numbers for each after the first, its answer's and three of its own.
+impl From<Result<Sides, Refusal>> for Answer<257> {
+    fn from(read: Result<Sides, Refusal>) -> Self {
+        let Sides { read, endings } = match read {
+            Ok(sides) => sides,
+            Err((number, detail)) => return Self::refused(number, detail),
+        };
+        let mut out = [0; 257];
+        out[0] = read;
+        for (four, ending) in out[1..].chunks_exact_mut(4).zip(endings) {
+            let Answer { returned, out: [first, second, third, _] } = Answer::<4>::from(ending);
+            four.copy_from_slice(&[returned, first, second, third]);
+        }
+        Self::fine(out)
     }
 }
 

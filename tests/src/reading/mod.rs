@@ -5,6 +5,7 @@ pub mod compact;
 pub mod dense;
 pub mod file;
 pub mod labels;
+pub mod many;
 pub mod plan;
 pub mod run;
 pub mod sweep;

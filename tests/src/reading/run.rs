@@ -20,7 +20,8 @@ pub enum Outcome {
     Refused { number: u32, detail: u64 },
 }
 
-fn not_finite(values: &[f64]) -> Option<u64> {
+/// The position of the first value that isn't finite.
+pub(super) fn not_finite(values: &[f64]) -> Option<u64> {
     values.iter().position(|v| !v.is_finite()).map(|at| at as u64 + 1)
 }
 

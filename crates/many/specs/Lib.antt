@@ -1,0 +1,2 @@
+-- What the contracts of `many` cite.
+pub mod Passes
