@@ -13,9 +13,9 @@ use Rattle.model.proofs.Many.{same-table}
 use Rattle.model.proofs.Reached.{Halted}
 use Rattle.model.proofs.Stepping.{OpenRoom}
 use Rattle.state.specs.declared.State.{State}
-use Rattle.state.specs.States.{tableOf, stateOf, Sound, FreeIn, Allowed}
+use Rattle.state.specs.States.{tableOf, stateOf, Sound, FreeIn, Allowed, WorksOn}
 use Rattle.sides.specs.Cells.{Cell}
-use Rattle.sides.specs.Standing.{own, StandsAt, WorksOn}
+use Rattle.sides.specs.Standing.{own, StandsAt}
 
 module _ (z : State) (cell : Cell) where
   -- a side whose answer is 0 got through, and its state is its own

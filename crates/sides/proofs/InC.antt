@@ -17,9 +17,9 @@ use Rattle.model.proofs.Reached.{advance}
 use Rattle.state.specs.declared.State.{State}
 use Rattle.state.specs.declared.Stepped.{Stepped}
 use Rattle.state.specs.declared.Stepped.the-variants.{On, Stop}
-use Rattle.state.specs.States.{tableOf, stateOf, steppedOf, SoundStep}
+use Rattle.state.specs.States.{tableOf, stateOf, steppedOf, SoundStep, WorksOn, worksIn, ReadyInC}
 use Rattle.sides.specs.Cells.{Cell, cellOf, ifGoing, endedBy, Each}
-use Rattle.sides.specs.Standing.{own, alone, worksIn, WorksOn, StandsAt, Kept, ReadyInC, StepsInC, SoundInC}
+use Rattle.sides.specs.Standing.{own, alone, StandsAt, Kept, StepsInC, SoundInC}
 
 -- a step in C: its target is there after it, or it stops with a refusal's number
 abbrev pub StaysInC : Run.Stepped → Type 0
@@ -114,7 +114,7 @@ withRows z after = record {
 
 -- the state without Y and X has made its step
 module _ (A : List Float) (limit : Float) (k kind p q : ℕ) (z : State) (c c′ y₁ x₁ : List Float) (r : Stepped)
-    (is : steppedOf r c′ y₁ x₁ ≡ step A [] limit (stateOf (alone z) c [] []) (kindOf kind) p q) {la lc : ℕ} (ready : ReadyInC la lc z kind p q)
+    (is : steppedOf r c′ y₁ x₁ ≡ step A [] limit (stateOf (alone z) c [] []) (kindOf kind) p q) {la lc : ℕ} (ready : ReadyInC la lc (alone z) kind p q)
     (count : ℕ) (running : List Float) (out : List ℕ) where
   -- one right side's step is beside it
   side-steps : (cell : Cell) (b y x : List Float) → StepsBeside (length x) (take (z .y) y) (drop (length x - z .x) x) (cell .gone) (steppedOf r c′ y₁ x₁)

@@ -17,13 +17,13 @@ use Rattle.model.specs.Many.{part}
 use Rattle.model.proofs.Reached.{advance}
 use Rattle.model.proofs.Parts.{part-length, part-entry}
 use Rattle.state.specs.declared.State.{State}
-use Rattle.state.specs.States.{mostMade, tableOf, stateOf, opened, subtracted, dividedBy, Sound, Of, FreeIn, Allowed}
+use Rattle.state.specs.States.{mostMade, tableOf, stateOf, opened, subtracted, dividedBy, Sound, Of, FreeIn, Allowed, WorksOn, worksIn}
 use Rattle.state.proofs.Steps.{entry-c, entry-y, entry-x}
 use Rattle.state.proofs.Arms.{table-named, allowed-as, no-kind}
 use Rattle.sides.specs.declared.each.At.{At}
 use Rattle.sides.specs.Cells as Cells
 use Rattle.sides.specs.Cells.{Cell, cellOf, ifGoing, Each, Started, readAs, Laid, FewGone}
-use Rattle.sides.specs.Standing.{own, StandsAt, WorksOn, worksIn, Kept, ReadyInRows, StepsInRows, CloseReady, ClosesInRows, SoundAfter}
+use Rattle.sides.specs.Standing.{own, StandsAt, Kept, ReadyInRows, StepsInRows, CloseReady, ClosesInRows, SoundAfter}
 use Rattle.sides.proofs.InRows.{opens-y, opens-x, subtracts-in, divides-in, closes-in}
 
 -- a target that is not in C may be closed whatever the length of C is

@@ -9,8 +9,8 @@ use Rattle.model.specs.Formula.{Table, C, Y, X}
 use Rattle.model.specs.Check.{Kind, opens, subtracts, divides, closes, closesPivot, none, kindOf}
 use Rattle.model.proofs.Within.{within-range}
 use Rattle.state.specs.declared.State.{State}
-use Rattle.state.specs.States.{tableOf, Sound, Allowed}
-use Rattle.sides.specs.Standing.{alone, worksIn, WorksOn, SidesReady, ReadyInC, SoundInC, ReadyInRows}
+use Rattle.state.specs.States.{tableOf, Sound, Allowed, WorksOn, worksIn, ReadyInC}
+use Rattle.sides.specs.Standing.{alone, SidesReady, SoundInC, ReadyInRows}
 
 -- kind 1 works in C
 pub opens-c : (kind : ℕ) (u : Table) → kind ≡ 1 → worksIn (kindOf kind) u ≡ C
@@ -73,7 +73,7 @@ allowed-in-rows la la′ lc N z none p q in-rows allowed = tt
 
 module _ {count N la lb lc ly lx lr : ℕ} {out : List ℕ} {z : State} {kind p q : ℕ} (sides : SidesReady count N la lb lc ly lx lr out z kind p q) where
   -- what the step on C relies on, and the one on Y or X
-  pub ready-in-c : worksIn (kindOf kind) (tableOf (z .table)) ≡ C → ReadyInC la lc z kind p q
+  pub ready-in-c : worksIn (kindOf kind) (tableOf (z .table)) ≡ C → ReadyInC la lc (alone z) kind p q
   ready-in-c in-c =
       let ready = sides .ready in
       record {

@@ -7,15 +7,15 @@ use lib.Dec.{eqb}
 use lib.ListN.{length, getD}
 use lib.Ieee.{Float}
 use Rattle.model.specs.Arith.{plusZero}
-use Rattle.model.specs.Formula.{Table, C, numberOf}
+use Rattle.model.specs.Formula.{C, numberOf}
 use Rattle.model.specs.Program.{rec}
-use Rattle.model.specs.Check.{Kind, opens, subtracts, divides, closes, closesPivot, none, kindOf}
+use Rattle.model.specs.Check.{kindOf}
 use Rattle.model.specs.Run.{closing, Followed, through, halted}
 use Rattle.model.specs.Boundary.{refusalNumber}
 use Rattle.model.specs.Many.{part}
 use Rattle.model.proofs.Reached.{advance}
 use Rattle.state.specs.declared.State.{State}
-use Rattle.state.specs.States.{tableOf, stateOf, Sound, Free, Ready}
+use Rattle.state.specs.States.{tableOf, stateOf, Sound, Free, Ready, WorksOn, worksIn}
 use Rattle.sides.specs.Cells.{Cell, cellOf, Room, FewGone}
 
 -- The state of one right side: all sides share the targets, the counts and C; a side has a running number of its own where the target is not in C, and
@@ -55,15 +55,6 @@ pub record Kept (count : ℕ) (out out′ : List ℕ) : Type 0 where
   pub first : getD out′ 0 0 ≡ getD out 0 0
   pub past : (j : ℕ) → 4 * count < j → getD out′ j 0 ≡ getD out j 0
 
--- the open target is in the table that the kind works on (11)
-abbrev pub WorksOn : Kind → Table → Type 0
-WorksOn (opens t) u = Unit {0}
-WorksOn (subtracts t) u = u ≡ t
-WorksOn divides u = Unit {0}
-WorksOn closes u = Unit {0}
-WorksOn closesPivot u = u ≡ C
-WorksOn none u = Unit {0}
-
 -- What a step relies on, with the lengths of A, B, C, Y, X, of the running numbers and of the numbers out: what one right side's step would, and room for all.
 pub record SidesReady (count N la lb lc ly lx lr : ℕ) (out : List ℕ) (z : State) (kind p q : ℕ) : Type 0 where
   pub ready : Ready la N lc N N z kind p q
@@ -76,15 +67,6 @@ pub record SidesReady (count N la lb lc ly lx lr : ℕ) (out : List ℕ) (z : St
   pub few-gone : FewGone count (z .products) out
 
 -- ---- the two kinds of records
-
--- the table that a record works in: the one whose entry it opens, or that of the open target
-abbrev pub worksIn : Kind → Table → Table
-worksIn (opens t) u = t
-worksIn (subtracts t) u = u
-worksIn divides u = u
-worksIn closes u = u
-worksIn closesPivot u = u
-worksIn none u = u
 
 -- the state without Y and X
 abbrev pub alone : State → State
@@ -100,11 +82,6 @@ alone z = record {
   vanished = z .vanished;
   moved = z .moved;
 }
-
-pub record ReadyInC (la lc : ℕ) (z : State) (kind p q : ℕ) : Type 0 where
-  pub ready : Ready la 0 lc 0 0 (alone z) kind p q
-  pub in-c : worksIn (kindOf kind) (tableOf (z .table)) ≡ C
-  pub works-on : WorksOn (kindOf kind) (tableOf (z .table))
 
 -- whatever the side's parts of B, Y and X are
 abbrev pub StepsInC : ℕ → List Float → Float → ℕ → ℕ → ℕ → ℕ → State → List Float → List Float → List ℕ → State → List Float → List Float → List ℕ → Type 0

@@ -2,9 +2,9 @@
 pub mod each;
 
 ghost use lib.ListN.{length};
-ghost use Rattle.state.specs.States.{Sound};
+ghost use Rattle.state.specs.States.{Sound, ReadyInC};
 ghost use Rattle.sides.specs.Cells.{Room};
-ghost use Rattle.sides.specs.Standing.{SidesReady, Steps, Kept, ReadyInC, StepsInC, SoundInC};
+ghost use Rattle.sides.specs.Standing.{SidesReady, Steps, Kept, alone, StepsInC, SoundInC};
 ghost use Rattle.sides.specs.Standing.{ReadyInRows, StepsInRows, CloseReady, ClosesInRows, SoundAfter};
 use each::At;
 use each::close_each;
@@ -63,7 +63,7 @@ fn step_in_c(
     running: &mut [f64],
     out: &mut [u64],
 ) -> State
-    requires { ⌜ ReadyInC (length (now a)) (length (now c)) z kind p q × Room count (length (now running)) (length (now out)) ⌝ }
+    requires { ⌜ ReadyInC (length (now a)) (length (now c)) (alone z) kind p q × Room count (length (now running)) (length (now out)) ⌝ }
     ensures { λ r. ⌜ StepsInC count (now (a .entry)) limit k kind p q z (now (c .entry)) (now (running .entry)) (now (out .entry))
         r (now (c .exit)) (now (running .exit)) (now (out .exit)) ⌝ }
     ensures { λ r. ⌜ SoundInC (length (now (c .entry))) z r × Kept count (now (out .entry)) (now (out .exit)) ⌝ }
@@ -71,7 +71,7 @@ fn step_in_c(
     let mut alone = z;
     alone.y = 0;
     alone.x = 0;
-    match state::step(alone, kind, p, q, a, &[], limit, c, &mut [], &mut []) {
+    match state::step_in_c(alone, kind, p, q, a, limit, c) {
         Stepped::On(after) => {
             let mut after = after;
             after.y = z.y;

@@ -6,8 +6,10 @@ use native.Mathlib.Numerals.{add-one}
 use mathlib.Core.Path.{_≡_, refl, sym, ap, ap₂, subst, _∙_}
 use mathlib.Core.Bool.{Bool, true, false}
 use mathlib.Core.List.{List}
+use lib.Dec.{eqb}
 use lib.ListN.{length}
 use lib.Ieee.{Float}
+use borrow.Author.Tests.{eqb-true, eqb-false}
 use Rattle.model.specs.Label.{within}
 use Rattle.model.specs.Arith.{Answer, number, overflow, zeroDivisor, quotient, vanishes}
 use Rattle.model.specs.Formula.{Table, C, Y, X, numberOf, entry, starting, less}
@@ -17,7 +19,7 @@ use Rattle.model.proofs.Within.{within-range}
 use Rattle.state.specs.declared.State.{State}
 use Rattle.state.specs.declared.Stepped.{Stepped}
 use Rattle.state.specs.declared.Stepped.the-variants.{On}
-use Rattle.state.specs.States.{tableOf, stateOf, steppedOf, opened, subtracted, dividedBy, answered, SoundStep, Sound, Allowed, Ready}
+use Rattle.state.specs.States.{tableOf, stateOf, steppedOf, opened, subtracted, dividedBy, answered, SoundStep, Sound, Allowed, Ready, WorksOn, worksIn}
 
 pub table-named : (t : Table) → tableOf (numberOf t) ≡ t
 table-named C = refl
@@ -43,6 +45,28 @@ no-kind k own a b c d e f g h i =
   where
     no-more : k ≤ 9 → 10 ≤ k → ⊥
     no-more high low = omega arith
+
+-- one that works in C and is none of 1, 4, 7 and 8 is 9
+not-c : (t : Table) → (numberOf t ≡ 1 → ⊥) → t ≡ C → ⊥
+not-c t other e = other (ap numberOf e)
+
+pub pivot-left : (k : ℕ) (u : Table) → within k 9 ≡ true → worksIn (kindOf k) u ≡ C → WorksOn (kindOf k) u → (k ≡ 1 → ⊥) → (k ≡ 4 → ⊥) → (k ≡ 7 → ⊥)
+    → (k ≡ 8 → ⊥) → k ≡ 9
+unfolding kindOf
+pivot-left k u own in-c on one four seven eight = go (eqb k 9) refl
+  where
+    works : {m : ℕ} → k ≡ m → worksIn (kindOf m) u ≡ C
+    works e = subst (λ k. worksIn (kindOf k) u ≡ C) e in-c
+
+    works-on : {m : ℕ} → k ≡ m → WorksOn (kindOf m) u
+    works-on e = subst (λ k. WorksOn (kindOf k) u) e on
+
+    go : (b : Bool) → eqb k 9 ≡ b → k ≡ 9
+    go true e = eqb-true k 9 e
+    go false e =
+        absurd (no-kind k own one (λ is. not-c Y (λ z. omega arith) (works is)) (λ is. not-c X (λ z. omega arith) (works is)) four
+        (λ is. not-c Y (λ z. omega arith) (sym (works-on is) ∙ works is)) (λ is. not-c X (λ z. omega arith) (sym (works-on is) ∙ works is)) seven eight
+        (eqb-false k 9 e))
 
 module _ (A B : List Float) (limit : Float) (c y x : List Float) (z : State) (sound : Sound (length c) (length y) (length x) z) where
   -- r with the tables c′, y′ and x′ is what a record of kind k gives

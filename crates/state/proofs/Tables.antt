@@ -48,3 +48,8 @@ pub getD-last : (l : List Float) (n k : ℕ) (d : Float) → n ≤ length l → 
 getD-last l n k d hn low high =
     let from : (length l - n) + (k - 1 - (length l - length (drop (length l - n) l))) ≡ k - 1 = omega (arith, length-drop (length l - n) l) in
     getD-drop (length l - n) l _ d ∙ ap (λ i. getD l i d) from
+
+-- a row of no entries
+pub no-entries : (l : List Float) → length l ≡ 0 → l ≡ []
+no-entries [] e = refl
+no-entries (x ∷ l) e = absurd (omega arith)

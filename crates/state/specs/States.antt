@@ -188,6 +188,32 @@ pub record Ready (la lb lc ly lx : ℕ) (z : State) (kind p q : ℕ) : Type 0 wh
   pub rows : lb ≡ ly
   pub allowed : Allowed la lc ly lx z (kindOf kind) p q
 
+-- ---- C alone (A.6)
+
+-- the open target is in the table that the kind works on (11)
+abbrev pub WorksOn : Kind → Table → Type 0
+WorksOn (opens t) u = Unit {0}
+WorksOn (subtracts t) u = u ≡ t
+WorksOn divides u = Unit {0}
+WorksOn closes u = Unit {0}
+WorksOn closesPivot u = u ≡ C
+WorksOn none u = Unit {0}
+
+-- the table that a record works in: the one whose entry it opens, or that of the open target
+abbrev pub worksIn : Kind → Table → Table
+worksIn (opens t) u = t
+worksIn (subtracts t) u = u
+worksIn divides u = u
+worksIn closes u = u
+worksIn closesPivot u = u
+worksIn none u = u
+
+-- what a step on C relies on, with the lengths of A and C, and no Y and X
+pub record ReadyInC (la lc : ℕ) (z : State) (kind p q : ℕ) : Type 0 where
+  pub ready : Ready la 0 lc 0 0 z kind p q
+  pub in-c : worksIn (kindOf kind) (tableOf (z .table)) ≡ C
+  pub works-on : WorksOn (kindOf kind) (tableOf (z .table))
+
 -- ---- a sweep (A.7)
 
 -- what a step of a sweep relies on by its kind, with the lengths of A, B and X

@@ -1,7 +1,7 @@
-// The state of a run, and one record on it: document 01, "Running"; document 02, A.1, A.5, A.7 and A.11.
+// The state of a run, and one record on it: document 01, "Running"; document 02, A.1, A.5, A.6, A.7 and A.11.
 ghost use mathlib.Core.Path.{_≡_};
 ghost use mathlib.Core.Bool.{cond};
-ghost use mathlib.Core.List.{map};
+ghost use mathlib.Core.List.{[], map};
 ghost use Prim.Native.Nat.{_-_, _≤_, _<_};
 ghost use lib.Dec.{eqb};
 ghost use lib.ListN.{length, getD, set};
@@ -10,7 +10,7 @@ ghost use Rattle.model.specs.Formula.{less};
 ghost use Rattle.model.specs.Sweep.{movesMore};
 ghost use Rattle.model.specs.Check.{kindOf};
 ghost use Rattle.model.specs.Run as Run;
-ghost use Rattle.state.specs.States.{mostMade, unopened, whole, Sound, SoundStep, Free, Of, Ready, SweepReady, MovesStep};
+ghost use Rattle.state.specs.States.{mostMade, unopened, whole, Sound, SoundStep, Free, Of, Ready, ReadyInC, SweepReady, MovesStep};
 ghost use Rattle.state.specs.States.{stateOf, steppedOf, answered, opened, subtracted, dividedBy, settled, unmoved};
 use arith::Operation;
 use numbers::wide;
@@ -197,6 +197,37 @@ pub fn step(
             }
         }
         _ => Stepped::On(z),
+    }
+}
+
+// One record on a target in C, with no Y and X lent: kinds 1, 4, 7, 8 and 9 as `step` has them. It is a function of its own because a run is fast
+// with `step` compiled into its loop, which is done with a function that is called from one place.
+pub fn step_in_c(
+    z: State,
+    kind: u32,
+    p: u32,
+    q: u32,
+    a: &[f64],
+    limit: f64,
+    c: &mut [f64],
+) -> Stepped
+    requires { ⌜ ReadyInC (length (now a)) (length (now c)) z kind p q ⌝ }
+    ensures { λ r. ⌜ steppedOf r (now (c .exit)) [] []
+        ≡ Run.step (now (a .entry)) [] limit (stateOf z (now (c .entry)) [] []) (kindOf kind) p q ⌝ }
+    ensures { λ r. ⌜ SoundStep (length (now (c .entry))) 0 0 r ⌝ }
+{
+    match kind {
+        1 => Stepped::On(z.open(1, q, coefficient(a, p))),
+        4 => z.subtract(entry(c, p), entry(c, q)),
+        7 => z.divide(entry(c, p)),
+        8 => Stepped::On(z.close(c, &mut [], &mut [])),
+        _ => {
+            if arith::is_small(limit, z.running) {
+                Stepped::Stop(17)
+            } else {
+                Stepped::On(z.close(c, &mut [], &mut []))
+            }
+        }
     }
 }
 

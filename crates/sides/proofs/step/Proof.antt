@@ -7,8 +7,7 @@ use borrow.Author.Tests.{eqb-true, eqb-false, ltb-true}
 use Rattle.model.specs.Formula.{C, numberOf}
 use Rattle.model.specs.Check.{kindOf}
 use Rattle.model.specs.Many.{part}
-use Rattle.state.specs.States.{tableOf}
-use Rattle.sides.specs.Standing.{worksIn}
+use Rattle.state.specs.States.{tableOf, worksIn}
 use Rattle.sides.proofs.Ways.{opens-c, opens-row, past-three, ready-in-c, ready-in-rows, sound-in-c}
 use Rattle.sides.proofs.step.Statement.{statement}
 use Rattle.sides.proofs.step.Tie as tie
