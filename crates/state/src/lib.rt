@@ -222,7 +222,8 @@ pub fn step_in_c(
         7 => z.divide(entry(c, p)),
         8 => Stepped::On(z.close(c, &mut [], &mut [])),
         _ => {
-            if arith::is_small(limit, z.running) {
+            let small = arith::is_small(limit, z.running);
+            if small {
                 Stepped::Stop(17)
             } else {
                 Stepped::On(z.close(c, &mut [], &mut []))
