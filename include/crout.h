@@ -44,7 +44,9 @@ enum crout_refusal_number {
     CROUT_LIMIT = 21,
     CROUT_SIDES = 25,
     CROUT_DIAGONAL_MISSING = 26, /* the first row r whose place (r, r) is not in the plan */
-    CROUT_UNSETTLED = 27
+    CROUT_UNSETTLED = 27,
+    CROUT_DIFFERENT = 28     /* the first chained record that is not the compiler's, the last one if the chain ends too soon;
+                                0 if record 0 has another order or other counts */
 };
 
 /* The refusal's number in what a call returned, 0 if it didn't refuse. */
@@ -126,6 +128,9 @@ static inline const char *crout_refusal_text(uint32_t number) {
                "or compile the plan for Crout";
     case CROUT_UNSETTLED:
         return "300 sweeps did not settle, and x holds the last of them: run the Crout program of the plan, or give a larger tolerance";
+    case CROUT_DIFFERENT:
+        return "the program's chain is not the compiler's for this plan: undo the edit at the record that the detail gives; "
+               "0 means another order or other counts of coefficients or slots, so give the plan that the program was compiled for";
     default:
         return "no refusal has this number: what was split is not what a call returned, or a detail has passed 32 bits";
     }
@@ -159,6 +164,13 @@ uint64_t crout_compile_sweep(uint32_t n, const uint32_t *plan, size_t plan_len, 
 
 /* Checks a program file's bytes: 18, then 7 to 13. */
 uint64_t crout_check(const uint8_t *file, size_t file_len);
+
+/* Whether a program is the one that crout_compile writes for a plan of order n, but for unused records put between its own, round which
+   the chain leads. Then it runs as that one does, but for the place of the record that a refusal names. work is at least n * n numbers:
+   1 to 4 leave it unchanged, after 5 its first n * n numbers are 0, else they are the plan's slots, as crout_compile leaves them.
+   Refusals 1 to 5, 7 to 13, 28. */
+uint64_t crout_compare(uint32_t n, const uint32_t *plan, size_t plan_len, uint32_t *work, size_t work_len,
+                       const uint32_t *words, size_t words_len);
 
 /* Writes words as a program file. out: bytes written, 0, 0. Refusals 7 and 19. */
 uint64_t crout_write(const uint32_t *words, size_t words_len, uint8_t *bytes, size_t bytes_len, uint64_t out[3]);

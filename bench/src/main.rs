@@ -1,8 +1,8 @@
 //! The exported functions beside plain Rust: a line for each case with the best times in microseconds, their ratio, and the
 //! nanoseconds for each record (and, for a run, each product), ours first. Beside a run stand dense Crout and, where it is
-//! installed, KLU, and beside the compact program ours of the plain one. Many right sides at once stand beside as many runs. Sweeps stand
-//! beside one Crout run of the same system, on some networks and then on grids of rising orders. The callers take turns, and what they may
-//! write is cleared before each timing.
+//! installed, KLU, beside the compact program ours of the plain one, and beside a program with spare records ours of the compiled one. Many
+//! right sides at once stand beside as many runs. Sweeps stand beside one Crout run of the same system, on some networks and then on grids of
+//! rising orders. The callers take turns, and what they may write is cleared before each timing.
 //!
 //! The last table has the time of a run against the order. `--csv FILE` and `--plot FILE` write it as CSV and as a picture; with
 //! `growth` nothing else is measured.
@@ -16,6 +16,7 @@ use crout_tests::networks;
 
 mod case;
 mod check;
+mod compare;
 mod compile;
 mod file;
 mod growth;
@@ -79,6 +80,10 @@ fn beside() {
     cases.into_iter().for_each(compile::compact);
     table::head("check", &[]);
     cases.into_iter().for_each(check::check);
+    table::head("compare", &[]);
+    cases.into_iter().for_each(compare::compare);
+    table::head("compare spaced", &compare::SPACED_COLUMNS);
+    cases.into_iter().for_each(compare::compare_spaced);
     table::head("file round trip", &[]);
     cases.into_iter().for_each(file::round_trip);
     table::head("run", &run::COLUMNS);

@@ -2,7 +2,7 @@
    with a message and status 1.
 
    GROUPS says how many groups of functions the library has: 1 labels, 2 compile, 3 check, write and read, 4 run and solve, 5 run many
-   right sides. */
+   right sides, 6 compare a program with a plan. */
 #include "crout.h"
 
 #include <stdio.h>
@@ -10,7 +10,7 @@
 #include <string.h>
 
 #ifndef GROUPS
-#define GROUPS 5
+#define GROUPS 6
 #endif
 
 #define COUNT(row) (sizeof(row) / sizeof((row)[0]))
@@ -447,6 +447,61 @@ static void refused_sides(void) {
 }
 
 #endif
+#if GROUPS >= 6
+
+/* What the call returns for a plan and a program, with the work numbers full of sevens before it. */
+static uint64_t compared(uint32_t n, const uint32_t *plan, size_t plan_len, size_t work_len, const uint32_t *program, size_t program_len) {
+    size_t k;
+    for (k = 0; k < COUNT(work); k++)
+        work[k] = 7;
+    return crout_compare(n, plan, plan_len, work, work_len, program, program_len);
+}
+
+/* The same for the plan of all labels of order n and a program of so many words, one of them changed. */
+static uint64_t edited(uint32_t n, const uint32_t *program, size_t program_len, size_t at, uint32_t word) {
+    const uint32_t plan[] = {1, 2, 3, 4};
+    uint32_t copy[92];
+    memcpy(copy, program, program_len * sizeof *program);
+    copy[at] = word;
+    return compared(n, plan, n * n, n * n, copy, program_len);
+}
+
+static int work_is(uint32_t first, uint32_t second, uint32_t third, uint32_t fourth) {
+    return work[0] == first && work[1] == second && work[2] == third && work[3] == fourth && work[4] == 7;
+}
+
+static void compare(void) {
+    const uint32_t spaced[] = {1, 1, 1, 2, 99, 99, 99, 99, 1, 1, 1, 3, 9, 0, 0, 4, 2, 1, 0, 5,
+                               7, 1, 0, 6, 8, 0, 0, 7, 3, 1, 0, 8, 8, 0, 0, 0};
+    const uint32_t longer[] = {1, 1, 1, 1, 1, 1, 1, 2, 9, 0, 0, 3, 2, 1, 0, 4, 7, 1, 0, 5,
+                               8, 0, 0, 6, 3, 1, 0, 7, 8, 0, 0, 8, 1, 1, 1, 9, 9, 0, 0, 0};
+    const uint32_t all[] = {1, 2, 3, 4}, pivots[] = {1, 4};
+    uint64_t out[3];
+    expect(compared(1, all, 1, 1, listing, 32) == 0 && work[0] == 1 && work[1] == 7, "the program of order 1 for its plan");
+    expect(compared(1, all, 1, 1, spaced, 36) == 0, "E1, an unused record");
+    expect(compared(1, all, 1, 1, longer, 40) == refusal(28, 8), "E2, records after the last");
+    expect(edited(1, listing, 32, 8, 8) == refusal(28, 2) && work[0] == 1, "E3, another kind");
+    expect(compiled(2, all, 4, 4, 92, out) == 0 && compared(2, all, 4, 5, words, 92) == 0 && work_is(1, 2, 3, 4), "a full table");
+    expect(edited(2, words, 92, 49, 3) == refusal(28, 12) && edited(2, words, 92, 50, 2) == refusal(28, 12), "E3, another p or q");
+    expect(compared(2, pivots, 2, 5, listing, 32) == refusal(28, 0) && work_is(1, 0, 0, 2), "E4 and E6, another order");
+    expect(compacted(16, 60, out) == 0 && compared(2, pivots, 2, 5, words, 60) == refusal(28, 0), "E4, fewer slots");
+    expect(compiled(2, all, 3, 4, 92, out) == 0 && compared(2, all, 4, 5, words, 92) == refusal(28, 0), "E4, another plan");
+    expect(swept(all, 4, 4, 36, out) == 0 && compared(2, all, 4, 5, words, 36) == refusal(28, 0), "E4, a program of sweeps");
+}
+
+static void compare_refused(void) {
+    const uint32_t all[] = {1, 2, 3, 4}, no_pivot[] = {2, 3}, twice[] = {1, 1}, five[] = {5};
+    expect(compared(601, all, 1, 5, listing, 32) == refusal(1, 0) && work_is(7, 7, 7, 7), "1 of a plan beside a program");
+    expect(compared(2, all, 4, 3, listing, 0) == refusal(2, 4) && work_is(7, 7, 7, 7), "2 before 7");
+    expect(compared(2, five, 1, 5, listing, 32) == refusal(3, 1) && work_is(7, 7, 7, 7), "3 before 28");
+    expect(compared(2, twice, 2, 5, listing, 32) == refusal(4, 2) && work_is(7, 7, 7, 7), "4 before 28");
+    expect(compared(2, no_pivot, 2, 5, listing, 0) == refusal(5, 1) && work_is(0, 0, 0, 0), "E5 and E6, 5 before 7");
+    expect(compared(1, all, 1, 1, listing, 0) == refusal(7, 0) && work[0] == 1 && work[1] == 7, "E5, no words");
+    expect(edited(1, listing, 32, 23, 0) == refusal(13, 0) && work[0] == 1 && work[1] == 7, "E5, cut before x(1)");
+    expect(edited(1, listing, 32, 0, 0) == refusal(8, 0) && edited(1, listing, 32, 17, 2) == refusal(12, 4), "8 and 12 before 28");
+}
+
+#endif
 
 int main(void) {
     labels();
@@ -472,6 +527,10 @@ int main(void) {
     known_sides();
     sixty_four_sides();
     refused_sides();
+#endif
+#if GROUPS >= 6
+    compare();
+    compare_refused();
 #endif
     return 0;
 }

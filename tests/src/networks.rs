@@ -50,6 +50,11 @@ pub fn scattered(n: u32, diagonal: f64, elsewhere: f64, random: &mut Random) -> 
     plan_of(n, all.filter(|&(i, j)| random.chance(if i == j { diagonal } else { elsewhere })).collect::<Vec<_>>())
 }
 
+/// The diagonal, the first row, the last row and the last column: no fill, and products for l(n,n), y(n) and x(1) with every other line.
+pub fn framed(n: u32) -> Vec<u32> {
+    plan_of(n, (1..=n).flat_map(|k| [(k, k), (1, k), (n, k), (k, n)]))
+}
+
 pub fn full(n: u32) -> Vec<u32> {
     (1..=n * n).collect()
 }

@@ -144,6 +144,11 @@ pub fn accepted(random: &mut Random) -> Vec<u32> {
     let n = up_to(6, random);
     let slots = up_to(n * n, random);
     let plan = random.below((n * n) as usize + 1) as u32;
+    accepted_as([n, plan, slots], random)
+}
+
+/// The same with this N, n and s.
+pub fn accepted_as([n, plan, slots]: [u32; 3], random: &mut Random) -> Vec<u32> {
     let mut closed = Closed { n, slots, slot: 0, c: 0, y: 0, x: 0 };
     let mut records = vec![];
     // a few slots may open again when all else is done

@@ -38,7 +38,7 @@ fn mark(plan: &[u32], work: &mut [u32]) {
 /// What is known of the held places beside their slots, which stand in the work slice by label. Rows and columns count from 1.
 pub(super) struct Table {
     pub(super) n: usize,
-    slots: usize,
+    pub(super) slots: usize,
     /// The first held column of each row, and the first held row of each column; above n while there is none.
     pub(super) first_column: Vec<usize>,
     first_row: Vec<usize>,
@@ -53,7 +53,7 @@ pub(super) struct Table {
 pub(super) struct Walk {
     pub(super) h: usize,
     pub(super) lower: usize,
-    upper: usize,
+    pub(super) upper: usize,
     step: usize,
 }
 

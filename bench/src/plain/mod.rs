@@ -1,8 +1,9 @@
-//! The compilers, the checker, the runners and the file's writer and reader as one would write them in plain Rust, with the same
-//! checks and operations; and dense Crout.
+//! The compilers, the checker, the comparison with a plan, the runners and the file's writer and reader as one would write them in plain
+//! Rust, with the same checks and operations; and dense Crout.
 
 pub mod check;
 pub mod compact;
+pub mod compare;
 pub mod compile;
 pub mod dense;
 pub mod file;

@@ -8,7 +8,7 @@ use crout_tests::random::Random;
 use crout_tests::reading::dense::At;
 use crout_tests::{programs, reading};
 
-use super::{Refusal, check, compact, compile, dense, file, many, run};
+use super::{Refusal, check, compact, compare, compile, dense, file, many, run};
 
 /// A call that compiles: order, plan, work numbers and words.
 type Call<T> = fn(u32, &[u32], &mut [u32], &mut [u32]) -> Result<T, Refusal>;
@@ -98,6 +98,40 @@ fn compare_checkers(program: fn(&mut Random) -> Vec<u32>, seed: u64) {
 fn the_same_checker() {
     compare_checkers(crout_program, 2);
     compare_checkers(sweep_program, 8);
+}
+
+/// A program that may be the plan's: the plan's own with spare records, with the plan's N, n and s, or of any kind; some are damaged.
+fn edited(n: u32, plan: &[u32], random: &mut Random) -> Vec<u32> {
+    let words = match programs::compiled(n, plan) {
+        Some(words) if random.chance(0.7) => words,
+        Some(words) if random.chance(0.5) => programs::accepted_as([words[0], words[1], words[2]], random),
+        _ => return crout_program(random),
+    };
+    damaged(programs::spaced(&words, random), random)
+}
+
+#[test]
+fn the_same_comparison() {
+    let random = &mut Random(12);
+    let mut met = BTreeSet::new();
+    for _ in 0..50_000 {
+        let mut n = 1 + random.below(8) as u32;
+        let mut plan = networks::any(n, random);
+        let words = edited(n, &plan, random);
+        match random.below(20) {
+            0 => plan.push(random.below(70) as u32),
+            1 => n = 601 * random.below(2) as u32,
+            _ => {}
+        }
+        let needed = (n * n) as usize;
+        let mut work = vec![7; if random.chance(0.1) { needed / 2 } else { needed + 1 }];
+        let mut read_work = work.clone();
+        let verdict = compare::compare(n, &plan, &mut work, &words);
+        assert_eq!(verdict, reading::compare::compare(n, &plan, &mut read_work, &words), "order {n}, {plan:?} {words:?}");
+        assert_eq!(work, read_work, "order {n}, {plan:?} {words:?}");
+        met.insert(verdict.map_or_else(|(number, _)| number, |()| 0));
+    }
+    assert_eq!(met, BTreeSet::from([0, 1, 2, 3, 4, 5, 8, 9, 10, 11, 12, 13, 28]));
 }
 
 #[test]

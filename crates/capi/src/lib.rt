@@ -1,4 +1,4 @@
-// The functions exported for C: document 01, "The C boundary"; document 02, A.1, A.6, A.7 and A.11. The header is include/crout.h.
+// The functions exported for C: document 01, "The C boundary"; document 02, A.1, A.6, A.7, A.10 and A.11. The header is include/crout.h.
 mod answers;
 
 use answers::compile_answer;
@@ -13,6 +13,7 @@ ghost use Rattle.model.specs.Arith.{plusZero};
 ghost use Rattle.model.specs.Compile.{compact, sweep, compiles, workAfter, compilesBy, workAfterBy, wordsAfterBy};
 ghost use Rattle.model.specs.Compile.{wordsAfter as Compile·wordsAfter};
 ghost use Rattle.model.specs.Check.{word};
+ghost use Rattle.model.specs.Compare.{compares, workCompared};
 ghost use Rattle.model.specs.Formula.{C, Y, X};
 ghost use Rattle.model.specs.Many.{ranMany, verdict, replies, leavesMany};
 ghost use Rattle.model.specs.Run.{ran, reply, leaves};
@@ -100,6 +101,16 @@ pub extern "C" fn crout_check(file: &[u8]) -> u64
     ensures { λ r. ⌜ r ≡ checkNumber (now (file .entry)) ⌝ }
 {
     verdict_answer(checker::check_file(file))
+}
+
+// Whether a program is the one compiled for a plan of order n, but for unused records between its own: 1 to 5 of the plan, 7 to 13 of the
+// program, then 28.
+#[no_mangle]
+pub extern "C" fn crout_compare(n: u32, plan: &[u32], work: &mut [u32], words: &[u32]) -> u64
+    ensures answer { λ r. ⌜ r ≡ verdictNumber (compares n (now (plan .entry)) (length (now (work .entry))) (now (words .entry))) ⌝ }
+    ensures work { λ r. ⌜ now (work .exit) ≡ workCompared n (now (plan .entry)) (now (work .entry)) ⌝ }
+{
+    verdict_answer(copies::compare(n, plan, work, words))
 }
 
 // Writes words as a program file. out: the bytes written.

@@ -1,21 +1,26 @@
--- The work numbers that check 2 wants, by their parts; and what the compilers of Crout share.
+-- The work numbers that check 2 wants, by their parts and by the places; and what the compilers of Crout share.
 use Prim.Native.Nat.{ℕ, _+_, _*_, _≤_}
 use native.Mathlib.Omega.{arith}
 use mathlib.Core.Path.{_≡_, refl}
 use mathlib.Core.Bool.{Bool, true, false}
 use Rattle.model.specs.Fill.{Plan, missing, productCount, recordCount}
 use Rattle.model.specs.Compile.{Compiler, plain, compact, sweep, wanted, spare, gap, gapAt, productsBy, recordsBy, slotNumbers, numbersBy}
-use Rattle.compiler.specs.Compilation.{croutOf}
+use Rattle.compiler.specs.Compilation.{croutOf, eachOf}
 
 pub wanted-is : (c : Compiler) (N : ℕ) → N * N + spare c N ≡ wanted c N
 wanted-is plain N = omega arith
 wanted-is compact N = omega arith
 wanted-is sweep N = omega arith
 
-pub wanted-fits : (c : Compiler) (N : ℕ) → N * N ≤ 360000 → wanted c N ≤ 1440000
-wanted-fits plain N few = omega arith
-wanted-fits compact N few = omega arith
-wanted-fits sweep N few = omega arith
+pub wanted-each : (c : Compiler) (N : ℕ) {each : ℕ} → each ≡ eachOf c → each * (N * N) ≡ wanted c N
+wanted-each plain N e = rw e (omega arith)
+wanted-each compact N e = rw e (omega arith)
+wanted-each sweep N e = rw e (omega arith)
+
+pub each-range : (c : Compiler) → (1 ≤ eachOf c) × (eachOf c ≤ 4)
+each-range plain = omega arith
+each-range compact = omega arith
+each-range sweep = omega arith
 
 -- 5, for a missing pivot; the counts; and the slots in the work numbers
 pub record Crout (c : Compiler) (N : ℕ) (L : Plan) : Type 0 where

@@ -5,30 +5,44 @@ use mathlib.Core.Path.{_≡_, sym, ap, ap₂, _∙_}
 use mathlib.Core.Bool.{Bool, true, false}
 use mathlib.Core.List.{List, _++_, append-assoc}
 use lib.ListN.{length, take, drop, replicate, length-append, length-drop, replicate-append-replicate}
-use lib.Seq.{take-at, drop-at, drop-drop}
+use lib.Seq.{drop-at}
 use Rattle.model.specs.Label.{isOrder}
 use Rattle.model.specs.Fill.{Plan, missing, recordCount}
 use Rattle.model.specs.Program.{program, compiled}
 use Rattle.model.specs.Compact.{compactSlots, compacted}
-use Rattle.model.specs.Compile.{written, refusal, Compiler, compact, wanted, spare, gapAt, slotsBy, recordsBy, programBy, slotNumbers, numbersBy, workWith}
+use Rattle.model.specs.Compile.{written, refusal, judged, good, orderly, compact, wanted, spare, gapAt, slotsBy, recordsBy, programBy}
+use Rattle.model.specs.Compile.{slotNumbers, numbersBy, workWith}
+use Rattle.model.proofs.Lists.{drop-later}
 use Rattle.model.proofs.Within.{within-range}
 use Rattle.model.proofs.Bounds.{records-at-most}
 use Rattle.model.proofs.Counts.{records-counted}
 use Rattle.model.proofs.WorkNumbers.{slot-numbers-length}
-use Rattle.model.proofs.Compiles.{Ends, ends-room, ends-gap, ends-words, ends-done}
+use Rattle.model.proofs.Compiles.{orderly-good, Ends, ends-gap, ends-words, ends-done}
 use Rattle.slots.specs.declared.Filled.{Filled}
+use Rattle.plans.specs.Slotted as Plans
 use Rattle.writer.specs.Line.{planRecords}
 use Rattle.writer.specs.Prepared.{Prepared}
-use Rattle.compiler.specs.Compilation.{croutOf}
+use Rattle.writer.proofs.Numbers.{filled-first, slots-agree, plan-compiled}
+use Rattle.compiler.specs.Compilation.{croutOf, eachOf}
 use Rattle.compiler.specs.Slotted.{Slotted}
-use Rattle.compiler.proofs.Compilers.{wanted-is, Crout, crout}
+use Rattle.compiler.proofs.Compilers.{wanted-is, wanted-each, Crout, crout}
 use Rattle.compiler.proofs.Parts.{partOf, withPart, cleared-part}
-use Rattle.compiler.proofs.Numbers.{slots-agree, plan-compiled}
 
--- too few work numbers
-pub room-ends : {c : Compiler} {N : ℕ} {L : Plan} {work words : List ℕ} {detail : ℕ} → detail ≡ wanted c N → isOrder N ≡ true → length work < detail
-    → Ends c N L work words (refusal 2 detail) work words
-room-ends {c} {N} {L} {work} {words} e order few = rw e (ends-room c N L work words order (rw e at few))
+-- a missing pivot: the work numbers are cleared
+pub missing-ends : (again : Bool) {each N : ℕ} {L : Plan} {before work inRows inColumns : List ℕ} {r : Filled} (words : List ℕ)
+    → orderly (wanted (croutOf again) N) N L (length before) ≡ good → each ≡ eachOf (croutOf again) → Plans.Slotted each N L before work inRows inColumns r
+    → (r .missing ≡ 0 → ⊥) → Ends (croutOf again) N L before words (refusal 5 (r .missing)) work words
+missing-ends again {each} {N} {L} {before} {work} {r = r} words passed each-is s gone =
+    let c = croutOf again in
+    let same = crout again N L in
+    let named : r .missing ≡ gapAt c N L = s .missing-is ∙ sym (same .gap-at) in
+    let clean : work ≡ workWith c N (replicate (N * N) 0) before =
+    s .cleared gone
+    ∙ ap (λ k. replicate k 0 ++ drop k before) (wanted-each c N each-is)
+    ∙ ap (λ l. l ++ drop (wanted c N) before)
+    (ap (λ k. replicate k 0) (sym (wanted-is c N)) ∙ sym (replicate-append-replicate (N * N) (spare c N) 0))
+    ∙ append-assoc (replicate (N * N) 0) (replicate (spare c N) 0) _ in
+    rw (named, clean, ← same .gap-is) (ends-gap c N L before words passed (λ none. gone (named ∙ none)))
 
 -- document 01's sum
 abbrev recordsOf : ℕ → Filled → ℕ
@@ -38,52 +52,38 @@ module _ {again : Bool} {N : ℕ} {L : Plan} {before work inRows inColumns : Lis
   same : Crout (croutOf again) N L
   same = crout again N L
 
-  numbers : work ≡ slotNumbers N L ++ drop (N * N) before
-  numbers = s .filled .written ∙ ap (λ l. slotNumbers N L ++ l) (s .rest)
+  -- what 1 to 4 tell
+  told : (isOrder N ≡ true) × ((judged N 0 1 L ≡ good) × (wanted (croutOf again) N ≤ length before))
+  told = orderly-good _ _ _ _ (s .passed)
+
+  pub high : N ≤ 600
+  high = within-range N 600 (told .0) .1
 
   slots-first : take (N * N) work ≡ slotNumbers N L
-  slots-first = rw numbers (take-at _ _ (N * N) (slot-numbers-length N L))
-
-  past-slots : drop (N * N) work ≡ drop (N * N) before
-  past-slots = rw numbers (drop-at (slotNumbers N L) _ (N * N) (slot-numbers-length N L))
+  slots-first = filled-first (s .filled)
 
   past-wanted : drop (wanted (croutOf again) N) work ≡ drop (wanted (croutOf again) N) before
   past-wanted =
-      ap (λ k. drop k work) (sym (wanted-is (croutOf again) N))
-      ∙ sym (drop-drop (spare (croutOf again) N) (N * N) work)
-      ∙ ap (drop (spare (croutOf again) N)) past-slots
-      ∙ drop-drop (spare (croutOf again) N) (N * N) before
-      ∙ ap (λ k. drop k before) (wanted-is (croutOf again) N)
+      drop-later work before (N * N) (wanted (croutOf again) N) (omega (arith, wanted-is (croutOf again) N))
+      (rw (s .filled .written) (drop-at (slotNumbers N L) _ (N * N) (slot-numbers-length N L)))
 
   pub roomy : wanted (croutOf again) N ≤ length work
   roomy = omega (
     arith,
-    s .room,
+    told .1 .1,
     wanted-is (croutOf again) N,
-    ap length numbers,
+    ap length (s .filled .written),
     length-append (slotNumbers N L) (drop (N * N) before),
     slot-numbers-length N L,
     length-drop (N * N) before,
   )
-
-  -- a missing pivot, and the work numbers cleared
-  pub missing-ends : (words : List ℕ) {count : ℕ} {cleared : List ℕ} → (r .missing ≡ 0 → ⊥) → count ≡ N * N + spare (croutOf again) N
-      → cleared ≡ replicate count 0 ++ drop count work → Ends (croutOf again) N L before words (refusal 5 (r .missing)) cleared words
-  missing-ends words {cleared = cleared} gone all e =
-      let clean : cleared ≡ workWith (croutOf again) N (replicate (N * N) 0) before =
-      e
-      ∙ ap (λ k. replicate k 0 ++ drop k work) all
-      ∙ ap₂ _++_ (sym (replicate-append-replicate (N * N) (spare (croutOf again) N) 0)) (ap (λ k. drop k work) (wanted-is (croutOf again) N) ∙ past-wanted)
-      ∙ append-assoc (replicate (N * N) 0) (replicate (spare (croutOf again) N) 0) _ in
-      let named : r .missing ≡ gapAt (croutOf again) N L = s .filled .missing-is ∙ sym (same .gap-at) in
-      rw (named, clean, ← same .gap-is) (ends-gap (croutOf again) N L before words (s .order) (s .room) (s .labels) (λ none. gone (named ∙ none)))
 
   records-are : recordsOf N r ≡ recordCount N L
   unfolding recordCount
   records-are = rw (s .filled .slots-are, s .filled .products-are, s .filled .above-are)
 
   pub records-fit : recordsOf N r ≤ 100000000
-  records-fit = rw records-are (records-at-most N L (within-range N 600 (s .order) .1))
+  records-fit = rw records-are (records-at-most N L high)
 
   pub none : r .missing ≡ 0 → missing N L ≡ 0
   none complete = sym (s .filled .missing-is) ∙ complete
@@ -105,13 +105,13 @@ module _ {again : Bool} {N : ℕ} {L : Plan} {before work inRows inColumns : Lis
         ∙ ap₂ (λ q k. take q work ++ (replicate k 0 ++ drop (q + k) work)) square-is spares-is
         ∙ ap₂ (λ xs ys. xs ++ (replicate (spare (croutOf again) N) 0 ++ ys)) (slots-first ∙ sym (same .numbers-are))
         (ap (λ k. drop k work) (wanted-is (croutOf again) N) ∙ past-wanted) in
-        rw (all, clean) (ends-words (croutOf again) N L before words (s .order) (s .room) (s .labels) whole (rw all at few))
+        rw (all, clean) (ends-words (croutOf again) N L before words (s .passed) whole (rw all at few))
 
     module _ (enough : 4 * records ≤ length words) where
       pub prepared : Prepared N L work inRows inColumns words
       prepared = record {
-        order = s .order;
-        rises = s .labels;
+        order = told .0;
+        rises = told .1 .0;
         covers = omega (arith, roomy, wanted-is (croutOf again) N);
         kept = λ i j inside. sym (slots-agree N L work slots-first i j inside .1);
         records = rw (plan-compiled N L work slots-first) at (records-counted N L (none complete));
@@ -130,7 +130,7 @@ module _ {again : Bool} {N : ℕ} {L : Plan} {before work inRows inColumns : Lis
           let numbers-left = left ∙ ap (λ ns. workWith (croutOf again) N ns before) (sym (same .numbers-are)) in
           let wrote-all = wrote ∙ ap (λ k. programBy (croutOf again) N L ++ drop (4 * k) words) (sym (same .records-are)) in
           rw (made, products, all, numbers-left, wrote-all)
-          (ends-done (croutOf again) N L before words (s .order) (s .room) (s .labels) whole (rw all at enough))
+          (ends-done (croutOf again) N L before words (s .passed) whole (rw all at enough))
 
       -- with the plain slots,
       pub plain-ends : again ≡ false → {words′ : List ℕ} → words′ ≡ program N (length L) (r .slots) (planRecords N L work) ++ drop (4 * recordCount N L) words
@@ -138,7 +138,7 @@ module _ {again : Bool} {N : ℕ} {L : Plan} {before work inRows inColumns : Lis
       unfolding compiled
       plain-ends is wrote =
           done-ends (s .filled .slots-are ∙ sym (ap (λ b. slotsBy (croutOf b) N L) is))
-          (numbers ∙ sym (ap (λ b. workWith (croutOf b) N (slotNumbers N L) before) is))
+          (s .filled .written ∙ sym (ap (λ b. workWith (croutOf b) N (slotNumbers N L) before) is))
           (wrote ∙ rw (is, s .filled .slots-are, plan-compiled N L work slots-first))
 
       -- and with slots used again

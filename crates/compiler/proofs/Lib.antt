@@ -1,5 +1,4 @@
 -- The laws that the proofs of `compiler` share.
-pub mod Numbers
 pub mod Parts
 pub mod Copied
 pub mod Compacted

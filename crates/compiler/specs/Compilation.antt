@@ -1,4 +1,5 @@
 -- The compiler's answer as the model's: document 01's slots, product count and records, or its refusal's number and detail. Definitions only.
+use Prim.Native.Nat.{ℕ}
 use mathlib.Core.Bool.{Bool, true, false}
 use Rattle.model.specs.Compile.{Compiled, written, refusal, Compiler, plain, compact, sweep}
 use Rattle.compiler.specs.declared.Compilation.{Compilation}
@@ -20,3 +21,9 @@ compilerOf Sweep = sweep
 abbrev pub croutOf : Bool → Compiler
 croutOf false = plain
 croutOf true = compact
+
+-- the work numbers that check 2 wants for each place of the table
+abbrev pub eachOf : Compiler → ℕ
+eachOf plain = 1
+eachOf compact = 4
+eachOf sweep = 1

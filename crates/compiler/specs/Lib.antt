@@ -1,4 +1,3 @@
 -- What the contracts of the compiler cite.
 pub mod Compilation
-pub mod Judge
 pub mod Slotted

@@ -1,28 +1,23 @@
 // The compiler: document 01, "Fill and slots", "Records" and checks 1 to 6; document 02, A.7 and A.11.
-mod checks;
 mod sweeps;
 
-use checks::Judged;
 use numbers::wide;
-use numbers::within;
+use plans::Judged;
 use slots::Filled;
 use sweeps::compile_rows;
 ghost use mathlib.Core.Path.{_≡_};
-ghost use mathlib.Core.Bool.{true};
 ghost use mathlib.Core.List.{List, _++_};
 ghost use Prim.Native.Nat.{ℕ, _+_, _*_, _≤_};
 ghost use lib.ListN.{length, take, drop};
 ghost use lib.Seq.{paste};
-ghost use Rattle.model.specs.Label.{isOrder};
 ghost use Rattle.model.specs.Fill.{missing, recordCount};
 ghost use Rattle.model.specs.Compact.{compactSlots, compacted};
-ghost use Rattle.model.specs.Compile.{judged, good, compact, sweep, workWith, compiles, workAfter, wordsAfter};
+ghost use Rattle.model.specs.Compile.{good, orderly, compact, sweep, wanted, workWith, compiles, workAfter, wordsAfter};
 ghost use Rattle.model.specs.Compile.{compilesBy, workAfterBy, wordsAfterBy};
-ghost use Rattle.model.specs.Compile.{wanted as Compile·wanted};
 ghost use Rattle.model.specs.Compile.{spare as Compile·spare};
 ghost use Rattle.model.proofs.Compiles.{Ends};
 ghost use Rattle.writer.specs.Prepared.{Prepared};
-ghost use Rattle.compiler.specs.Compilation.{compiledOf, compilerOf, croutOf};
+ghost use Rattle.compiler.specs.Compilation.{compiledOf, compilerOf, croutOf, eachOf};
 ghost use Rattle.compiler.specs.Slotted.{Slotted, SomeSlotted};
 
 // What the compiler answers: the slots, the product count and the records of the program written, or a refusal's number and its detail.
@@ -85,38 +80,20 @@ fn compile_by(
     ensures { λ r. ⌜ Ends (compilerOf method) n (now (plan .entry)) (now (work .entry)) (now (words .entry))
         (compiledOf r) (now (work .exit)) (now (words .exit)) ⌝ }
 {
-    if !within(n, 600) {
-        return Compilation::Refused {
-            number: 1,
-            detail: 0,
-        };
-    }
-    let wanted = wanted(n, method);
-    if work.len() < wide(wanted) {
-        return Compilation::Refused {
-            number: 2,
-            detail: wanted as u64,
-        };
-    }
-    match checks::judge(n, plan) {
-        Judged::Bad { number, position } => Compilation::Refused {
-            number,
-            detail: position,
-        },
+    match plans::check(n, plan, work.len(), each(method)) {
+        Judged::Bad { number, detail } => Compilation::Refused { number, detail },
         Judged::Good => compile_good(n, plan, work, words, method),
     }
 }
 
-// The work numbers that check 2 wants.
-fn wanted(n: u32, method: Method) -> u32
-    requires { ⌜ n ≤ 600 ⌝ }
-    ensures { λ r. ⌜ r ≡ Compile·wanted (compilerOf method) n ⌝ }
+// The work numbers that check 2 wants for each place of the table.
+fn each(method: Method) -> u32
+    ensures { λ r. ⌜ r ≡ eachOf (compilerOf method) ⌝ }
 {
-    let square = n * n;
     match method {
-        Method::Plain => square,
-        Method::Compact => 4 * square,
-        Method::Sweep => square,
+        Method::Plain => 1,
+        Method::Compact => 4,
+        Method::Sweep => 1,
     }
 }
 
@@ -128,7 +105,7 @@ fn compile_good(
     words: &mut [u32],
     method: Method,
 ) -> Compilation
-    requires { ⌜ (isOrder n ≡ true) × ((judged n 0 1 (now plan) ≡ good) × (Compile·wanted (compilerOf method) n ≤ length (now work))) ⌝ }
+    requires { ⌜ orderly (wanted (compilerOf method) n) n (now plan) (length (now work)) ≡ good ⌝ }
     ensures { λ r. ⌜ Ends (compilerOf method) n (now (plan .entry)) (now (work .entry)) (now (words .entry))
         (compiledOf r) (now (work .exit)) (now (words .exit)) ⌝ }
 {
@@ -147,17 +124,16 @@ fn compile_crout(
     words: &mut [u32],
     again: bool,
 ) -> Compilation
-    requires { ⌜ (isOrder n ≡ true) × ((judged n 0 1 (now plan) ≡ good) × (Compile·wanted (croutOf again) n ≤ length (now work))) ⌝ }
+    requires { ⌜ orderly (wanted (croutOf again) n) n (now plan) (length (now work)) ≡ good ⌝ }
     ensures { λ r. ⌜ Ends (croutOf again) n (now (plan .entry)) (now (work .entry)) (now (words .entry))
         (compiledOf r) (now (work .exit)) (now (words .exit)) ⌝ }
 {
     let mut rows = [601u32; 601];
     let mut columns = [601u32; 601];
-    slots::mark(n, plan, work);
-    let filled = slots::fill(n, work, &mut rows, &mut columns);
+    let each = if again { 4 } else { 1 };
+    let filled = plans::slot(n, plan, work, &mut rows, &mut columns, each);
     let missing = filled.missing;
     if missing != 0 {
-        slots::clear(work, wide(n * n + spare(n, again)));
         return Compilation::Refused {
             number: 5,
             detail: missing as u64,

@@ -4,17 +4,15 @@ use numbers::wide;
 use writer::rows::first_bare;
 use writer::rows::write_rows;
 ghost use mathlib.Core.Path.{_≡_};
-ghost use mathlib.Core.Bool.{true};
-ghost use Prim.Native.Nat.{_*_, _≤_};
+ghost use Prim.Native.Nat.{_*_};
 ghost use lib.ListN.{length};
-ghost use Rattle.model.specs.Label.{isOrder};
-ghost use Rattle.model.specs.Compile.{judged, good, sweep};
+ghost use Rattle.model.specs.Compile.{good, orderly, sweep};
 ghost use Rattle.model.proofs.Compiles.{Ends};
 ghost use Rattle.compiler.specs.Compilation.{compiledOf};
 
 // A plan that checks 1 to 4 let through: 26, 6 and the rows, from its positions.
 pub fn compile_rows(n: u32, plan: &[u32], work: &mut [u32], words: &mut [u32]) -> Compilation
-    requires { ⌜ (isOrder n ≡ true) × ((judged n 0 1 (now plan) ≡ good) × (n * n ≤ length (now work))) ⌝ }
+    requires { ⌜ orderly (n * n) n (now plan) (length (now work)) ≡ good ⌝ }
     ensures { λ r. ⌜ Ends sweep n (now (plan .entry)) (now (work .entry)) (now (words .entry)) (compiledOf r) (now (work .exit)) (now (words .exit)) ⌝ }
 {
     slots::mark(n, plan, work);

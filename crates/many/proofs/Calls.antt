@@ -25,10 +25,6 @@ head-fits W e =
     let p = from-passed 1 W e in
     (omega (arith, p .some, p .fours), within-range (word W 0) 600 (both (isOrder (word W 0)) _ (p .head) .0) .1)
 
--- and there are no more sides than there is room for
-pub few-sides : {W : List ℕ} {count la lb lc ly lx : ℕ} → FitMany W count la lb lc ly lx → count ≤ 64
-few-sides {count = count} f = within-range count 64 (f .sides) .1
-
 -- where 14 passes, the lengths are those that the pass relies on
 pub fit-many : (W : List ℕ) (count la lb lc ly lx : ℕ) → checkFrom 1 W ≡ fine → within count 64 ≡ true → lengthsFit W count la lb lc ly lx ≡ true
     → FitMany W count la lb lc ly lx

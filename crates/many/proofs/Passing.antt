@@ -78,7 +78,7 @@ module _ {W : List ℕ} {count la lb lc ly lx : ℕ} (fit : FitMany W count la l
   pub some-words : 3 < length W
   some-words = omega (arith, passed .some, passed .fours)
 
-  few-sides : (1 ≤ count) × (count ≤ 64)
+  pub few-sides : (1 ≤ count) × (count ≤ 64)
   few-sides = within-range count 64 (fit .sides)
 
   order : word W 0 ≤ 600

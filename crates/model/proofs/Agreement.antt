@@ -1,6 +1,6 @@
 -- Demand 3 on the definitions: the run of the compiled program is dense Crout, seen through the compression.
 use Prim.Native.Nat.{ℕ, _+_, _≤_}
-use mathlib.Core.Path.{_≡_, refl, ap, _∙_}
+use mathlib.Core.Path.{_≡_, refl, sym, ap, _∙_}
 use mathlib.Core.List.{List}
 use native.Mathlib.Omega.{arith}
 use lib.ListN.{length}
@@ -9,7 +9,7 @@ use Rattle.model.specs.Fill.{Plan, slots, productCount, above}
 use Rattle.model.specs.Formula.{C, Y, X, Ended, solved, refused}
 use Rattle.model.specs.Crout.{reducedFormulas, dense}
 use Rattle.model.specs.Program.{compiled, compiledRecords}
-use Rattle.model.specs.Check.{chain}
+use Rattle.model.specs.Check.{fine, check, chain, word, isSweep}
 use Rattle.model.specs.Run.{fresh, follow, followed, ran}
 use Rattle.model.specs.Agreement.{Accepted, whole, seen, compressed, Agrees}
 use Rattle.model.proofs.Within.{within-range}
@@ -24,15 +24,21 @@ use Rattle.model.proofs.Checked.{slots-some, program-fine}
 module _ {N : ℕ} {L : Plan} {A B : List Float} {limit : Float} (accepted : Accepted N L A B limit) where
   open Accepted accepted using (given, pivots)
 
-  -- the checks before the first record let the run through
-  pub runs : ran (compiled N L) A B limit (slots N L) N N ≡ followed (follow A B limit (fresh N) (chain (compiled N L) .links))
-  unfolding compiled doneBy
-  runs =
-      let crout = slots-some N L (given .order) pivots in
-      runs-open (compiled N L) A B limit (slots N L) N N (program-fine N L (given .order) (given .labels) pivots)
-      (lengths-right N (length L) (slots N L) _ _ _ _ _ (given .lengthA) (given .lengthB) refl (rw crout) refl)
+  -- the checks before the first record let the run of a program that passes, with the plan's N, n and s, through
+  pub runs-as : (W : List ℕ) → word W 0 ≡ N → word W 1 ≡ length L → word W 2 ≡ slots N L → check W ≡ fine
+      → ran W A B limit (slots N L) N N ≡ followed (follow A B limit (fresh N) (chain W .links))
+  unfolding doneBy
+  runs-as W order labels are passes =
+      let crout = ap isSweep are ∙ slots-some N L (given .order) pivots in
+      runs-open W A B limit (slots N L) N N passes
+      (lengths-right _ _ _ _ _ _ _ _ (given .lengthA ∙ sym labels) (given .lengthB ∙ sym order) (sym are) (rw (crout, order)) (sym order))
       (finite-fine A B limit (record { finiteA = given .finiteA; finiteB = given .finiteB; limited = given .limited }))
-      ∙ ap (doneBy (compiled N L) A B limit) crout
+      ∙ ap (doneBy W A B limit) crout ∙ ap (λ m. followed (follow A B limit (fresh m) (chain W .links))) order
+
+  -- so that of the compiled one
+  pub runs : ran (compiled N L) A B limit (slots N L) N N ≡ followed (follow A B limit (fresh N) (chain (compiled N L) .links))
+  unfolding compiled
+  runs = runs-as (compiled N L) refl refl refl (program-fine N L (given .order) (given .labels) pivots)
 
   -- the run's ending is that of the reduced formulas, with the plan's counts
   follows : seen (ran (compiled N L) A B limit (slots N L) N N) ≡ shown (productCount N L) (N + above N L) (squeezed N L (dense N L A B limit))

@@ -11,7 +11,7 @@ use lib.ListN.{length, getD, take, drop, set, length-drop}
 use lib.Seq.{length-take-le, take-all, getD-take, getD-drop, take-add, drop-drop, take-set-le, take-set-lt, drop-set-lt, drop-set-add}
 use Rattle.model.specs.Lists.{rising, joined}
 use Rattle.model.specs.Many.{part, parts}
-use Rattle.model.proofs.Lists.{length-rising, getD-rising, rising-agree, map-rising}
+use Rattle.model.proofs.Lists.{rising-agree, map-rising}
 
 module _ {A : Type 0} (N : ℕ) where
   -- a part has N entries, and the i-th of part r stands at r * N + i of the whole
@@ -21,15 +21,7 @@ module _ {A : Type 0} (N : ℕ) where
   pub part-entry : (vs : List A) (r i : ℕ) (d : A) → i < N → getD (part N vs r) i d ≡ getD vs (r * N + i) d
   part-entry vs r i d h = getD-take N (drop (r * N) vs) i d h ∙ getD-drop (r * N) vs i d
 
-  -- the parts one by one, and what a function makes of each
-  pub parts-length : (count : ℕ) (vs : List A) → length (parts N count vs) ≡ count
-  unfolding parts
-  parts-length count vs = length-rising (part N vs) 0 count
-
-  pub parts-entry : (count : ℕ) (vs : List A) (r : ℕ) (d : List A) → r < count → getD (parts N count vs) r d ≡ part N vs r
-  unfolding parts
-  parts-entry count vs r d h = getD-rising (part N vs) 0 count r d h ∙ ap (part N vs) (omega arith)
-
+  -- what a function makes of each part
   pub map-parts : {B : Type 0} (f : List A → B) (count : ℕ) (vs : List A) → map f (parts N count vs) ≡ rising (λ r. f (part N vs r)) 0 count
   unfolding parts
   map-parts f count vs = map-rising f (part N vs) 0 count

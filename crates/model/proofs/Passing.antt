@@ -3,12 +3,12 @@ use Prim.Native.Nat.{ℕ, _*_, _/_, _%_, _≤_, _<_}
 use native.Mathlib.Omega.{arith}
 use mathlib.Core.Path.{_≡_, refl}
 use mathlib.Core.Bool.{Bool, true, false, cond, _&&_, and-eq-true-iff}
-use mathlib.Core.List.{List, _∷_}
+use mathlib.Core.List.{List, [], _∷_}
 use borrow.Author.Tests.{lt-ltb, ltb-true, le-leb, leb-true, eq-eqb, eqb-true, ne-eqb}
 use lib.Dec.{eqb, leb, ltb}
 use lib.ListN.{length}
 use Rattle.model.specs.Label.{isOrder}
-use Rattle.model.specs.Check.{Link, End, whole, Progress, Verdict, fine, refusal, Kind, kindOf, belongs, formed, inOrder, allowed, onward}
+use Rattle.model.specs.Check.{Link, End, whole, broken, Progress, Verdict, fine, refusal, Kind, kindOf, belongs, formed, inOrder, allowed, onward}
 use Rattle.model.specs.Check.{complete, atEnd, begun, isSweep, word, chain, checkLinks, checkFrom, check}
 
 -- a refusal is not fine
@@ -128,3 +128,10 @@ end-passed N s g = go (complete N s g)
     go : (b : Bool) → cond b fine (refusal 13 0) ≡ fine → b ≡ true
     go true e = refl
     go false e = absurd (refused-fine 13 0 e)
+
+-- a chain that passes ends whole
+pub ends-whole : (N n s : ℕ) (g : Progress) (ls : List Link) (e : End) → checkLinks N n s g ls e ≡ fine → e ≡ whole
+unfolding checkLinks
+ends-whole N n s g [] whole passes = refl
+ends-whole N n s g [] (broken k) passes = absurd (refused-fine 9 k passes)
+ends-whole N n s g (l ∷ ls) e passes = ends-whole N n s _ ls e (link-passed N n s g l ls e passes .later)

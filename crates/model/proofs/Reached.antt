@@ -1,6 +1,6 @@
 -- Many right sides: a side's state after the records seen so far, and how many chained records the call has read when its last side is refused or gets
 -- through. Document 02, A.6.
-use Prim.Native.Nat.{ℕ, zero, suc, _+_, _/_, _≤_, _<_}
+use Prim.Native.Nat.{ℕ, zero, suc, _/_, _≤_, _<_}
 use native.Mathlib.Omega.{arith}
 use mathlib.Core.Path.{_≡_, refl, sym, ap, subst, _∙_}
 use mathlib.Core.Bool.{Bool, true, false, _&&_}
@@ -56,14 +56,6 @@ module _ (A b : List Float) (limit : Float) where
   pub advanced-next : (f : Followed) (ls : List Link) (l : Link) → advanced A b limit f (ls ++ (l ∷ [])) ≡ advance A b limit l (advanced A b limit f ls)
   unfolding advanced
   advanced-next f ls l = advanced-append f ls (l ∷ [])
-
-  pub next-steps : (f : Followed) (ls : List Link) (l : Link) (z : State) (s : Stepped) → advanced A b limit f ls ≡ through z
-      → step A b limit z (kindOf (l .at .kind)) (l .at .p) (l .at .q) ≡ s → advanced A b limit f (ls ++ (l ∷ [])) ≡ stepped l z s
-  next-steps f ls l z s e is = advanced-next f ls l ∙ ap (advance A b limit l) e ∙ ap (stepped l z) is
-
-  pub next-halted : (f : Followed) (ls : List Link) (l : Link) (r i : ℕ) (t : Table) (k : ℕ) → advanced A b limit f ls ≡ halted r i t k
-      → advanced A b limit f (ls ++ (l ∷ [])) ≡ halted r i t k
-  next-halted f ls l r i t k e = advanced-next f ls l ∙ ap (advance A b limit l) e
 
   -- along a whole list it is the run
   pub follow-advanced : (z : State) (ls : List Link) → follow A b limit z ls ≡ advanced A b limit (through z) ls
@@ -220,13 +212,9 @@ module _ {W : List ℕ} {seen : List Link} {k : ℕ} (s : Seen W seen k) where
 
   module _ (A b : List Float) (limit : Float) (z : State) where
     -- a run goes on from where it is after them
-    pub seen-leads : follow A b limit z (chain W .links) ≡ advanced A b limit (advanced A b limit (through z) seen) (chainFrom W k .links)
+    seen-leads : follow A b limit z (chain W .links) ≡ advanced A b limit (advanced A b limit (through z) seen) (chainFrom W k .links)
     seen-leads = follow-advanced A b limit z (chain W .links) ∙ ap (advanced A b limit (through z)) (s .links)
         ∙ advanced-append A b limit (through z) seen (chainFrom W k .links)
-
-    pub seen-through : (w : State) → advanced A b limit (through z) seen ≡ through w
-        → follow A b limit z (chain W .links) ≡ follow A b limit w (chainFrom W k .links)
-    seen-through w e = seen-leads ∙ ap (λ f. advanced A b limit f (chainFrom W k .links)) e ∙ sym (follow-advanced A b limit w (chainFrom W k .links))
 
     pub seen-halted : (r i : ℕ) (t : Table) (n : ℕ) → advanced A b limit (through z) seen ≡ halted r i t n
         → follow A b limit z (chain W .links) ≡ halted r i t n

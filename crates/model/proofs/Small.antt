@@ -10,7 +10,7 @@ use lib.ListN.{length}
 use lib.Ieee.{Float}
 use borrow.Author.Tests.{ltb-true, eqb-false}
 use Rattle.model.specs.Label.{isOrder, within, label}
-use Rattle.model.specs.Fill.{Plan, position, missing}
+use Rattle.model.specs.Fill.{Plan, slots, position, missing}
 use Rattle.model.specs.Check as Check
 use Rattle.model.specs.Check.{Link, Kind, opens, subtracts, divides, closes, closesPivot, none, Progress, Verdict, fine}
 use Rattle.model.specs.Check.{End, whole, broken, Chain, chainAfter, chain, nextOf, recordAt, before}
@@ -24,8 +24,9 @@ use Rattle.model.specs.Run.{onceMore, onlyX, sweptOver, notFinite, check
 use Rattle.model.specs.Many.{sides, noneRun, ranMany, verdict}
 use Rattle.model.specs.Compile as Compile
 use Rattle.model.specs.Compile.{Compiled, written, Labels, good, bad, judged, Compiler, plain, compact, sweep, wanted, gap, gapAt}
-use Rattle.model.specs.Compile.{slotsBy, productsBy, recordsBy, compilesBy, compiles}
-use Rattle.model.specs.Program.{compiled}
+use Rattle.model.specs.Compile.{slotsBy, productsBy, recordsBy, admits, compilesBy, compiles}
+use Rattle.model.specs.Program.{Record, compiledRecords, compiled}
+use Rattle.model.specs.Compare.{sameRecord, compared, compares}
 use Rattle.model.specs.Solve.{replied}
 use Rattle.model.specs.File as File
 use Rattle.model.specs.File.{Filed, filed, writes, reads, wordsOf, checkFile}
@@ -248,6 +249,52 @@ compiles-small c N L work words =
     step true true good false fits o j v = omega (arith, gap-small c N L (within-range N 600 o .1) v)
     step true true good true false o j v = omega (arith, records-small c N L (within-range N 600 o .1))
     step true true good true true o j v = tt
+
+-- ---- a program beside a plan: 1 to 5, 7 to 13, and 28
+
+-- what 1 to 5 refuse of a plan, the compiler refuses so too
+admits-small : (N : ℕ) (L : Plan) (work r d : ℕ) → admits plain N L work ≡ bad r d → Small (100000000 + length L) r d
+unfolding compilesBy
+admits-small N L work r d e = rw (compilesBy, e) at (compiles-small plain N L work 0)
+
+-- 28 names one of the chain's records, or the last one before them
+compared-small : (b last : ℕ) (rs : List Record) (ls : List Link) → last ≤ b → LinksUpTo b ls → SmallVerdict b (compared last rs ls)
+unfolding compared
+compared-small b last [] [] h up = tt
+compared-small b last [] (l ∷ ls) h up = omega (arith, up .0)
+compared-small b last (r ∷ rs) [] h up = omega arith
+compared-small b last (r ∷ rs) (l ∷ ls) h (here, up) = step (sameRecord r (l .at)) (compared-small b (l .index) rs ls here up)
+  where
+    step : (same : Bool) → SmallVerdict b (compared (l .index) rs ls)
+        → SmallVerdict b (elim same as (λ b. Verdict) [ false ↦ Check.refusal 28 (l .index) | true ↦ compared (l .index) rs ls ])
+    step false rest = omega arith
+    step true rest = rest
+
+pub compares-small : (N : ℕ) (L : Plan) (work : ℕ) (W : List ℕ) → SmallVerdict (100000000 + length L + length W / 4) (compares N L work W)
+unfolding compares
+compares-small N L work W =
+    go (admits plain N L work) (check W) (eqb (word W 0) N && (eqb (word W 1) (length L) && eqb (word W 2) (slots N L)))
+    (admits-small N L work) (check-small W)
+  where
+    rest : Verdict
+    rest = compared 0 (compiledRecords N L) (chain W .links)
+
+    wider : (v : Verdict) → SmallVerdict (length W / 4) v → SmallVerdict (100000000 + length L + length W / 4) v
+    wider fine s = tt
+    wider (Check.refusal r d) s = omega arith
+
+    go : (a : Labels) (v : Verdict) (head : Bool) → ((r d : ℕ) → a ≡ bad r d → Small (100000000 + length L) r d) → SmallVerdict (length W / 4) v
+        → SmallVerdict (100000000 + length L + length W / 4) (elim a as (λ a. Verdict) [
+          | bad r d ↦ Check.refusal r d
+          | good ↦ elim v as (λ v. Verdict) [
+            | Check.refusal r d ↦ Check.refusal r d
+            | fine ↦ elim head as (λ b. Verdict) [ false ↦ Check.refusal 28 0 | true ↦ rest ]
+          ]
+        ])
+    go (bad r d) v head plan program = omega (arith, plan r d refl)
+    go good (Check.refusal r d) head plan program = omega arith
+    go good fine false plan program = omega arith
+    go good fine true plan program = wider rest (compared-small (length W / 4) 0 (compiledRecords N L) (chain W .links) (omega arith) (chain-links-up-to W))
 
 -- ---- the run
 

@@ -1,11 +1,11 @@
--- Document 01's "Known plans and values" and its listing, and values for document 02's A.1, A.5, A.6, A.7 and A.11, as one theorem about the
--- definitions.
-use Prim.Native.Nat.{ℕ, _*_}
+-- Document 01's "Known plans and values" and its listing, and values for document 02's A.1, A.5, A.6, A.7, A.10 and A.11, as one theorem
+-- about the definitions.
+use Prim.Native.Nat.{ℕ, suc, _*_}
 use mathlib.Core.Bool.{true, false}
 use mathlib.Core.Path.{_≡_, refl}
 use mathlib.Core.List.{List, [], _∷_, _++_, map}
 use lib.IntN.{pos, negsuc}
-use lib.ListN.{replicate}
+use lib.ListN.{take, drop, replicate}
 use lib.Ieee.{Float, inf, fin, binary64, ofInt, mul, sub, div, neg, lt, eq, le}
 use Rattle.model.specs.Lists.{rising, falling, joined, kept, total, some, count}
 use Rattle.model.specs.Label.{label, column, row, places, place}
@@ -20,10 +20,12 @@ use Rattle.model.specs.Compact.{needed, afterRecord, unnamed, renamed, c
 use Rattle.model.specs.Sweep.{rowFormula, rowFormulas, plannedRows, denseRows, sweepRecord, sweepRecords, compiledSweep, bareFrom, bare}
 use Rattle.model.specs.Sweep.{positionNumbers, movesMore, moved, sweeping, fullTable, settles, refusedAt, unsettles, denseOnce, denseSweep}
 use Rattle.model.specs.Compile.{written, refusal, judged, compact, sweep, orderly, admits, compilesBy, compiles, slotNumbers, workLeft, workAfterBy}
-use Rattle.model.specs.Check.{chainAfter, chain, kindOf, belongs, formed, inOrder, inTurn, inRow, allowed, complete, checkLinks, checkFrom, check}
+use Rattle.model.specs.Check as Check
+use Rattle.model.specs.Check.{fine, chainAfter, chain, kindOf, belongs, formed, inOrder, inTurn, inRow, allowed, complete, checkLinks, checkFrom, check}
 use Rattle.model.specs.Run.{Outcome, solution, stopped, refusedBy, unsettledAt, step, follow, followed, notFinite, checkValues, sweptOver, ran}
 use Rattle.model.specs.Run.{solves, stops, reply, leaves}
 use Rattle.model.specs.Many.{parts, Outcomes, noneRun, ranMany, readBy, read, each, replies, sharedC, leavesMany}
+use Rattle.model.specs.Compare.{sameRecord, compared, compares, workCompared}
 
 abbrev int : ℕ → Float
 int n = ofInt binary64 (pos n)
@@ -192,6 +194,23 @@ many₂ count A B rows = ranMany (compiled 2 diagonal₂) count A B plusZero 2 r
 abbrev threeSides : Outcomes
 threeSides = many₂ 3 (tiny ∷ int 1 ∷ []) (int 1 ∷ int 1 ∷ huge ∷ int 1 ∷ int 5 ∷ int 6 ∷ []) 6
 
+-- words with word i changed to v, and the program of order 1 with a spare record put first
+abbrev changed : ℕ → ℕ → List ℕ → List ℕ
+changed i v W = take i W ++ (v ∷ drop (suc i) W)
+
+abbrev spaced₁ : List ℕ
+spaced₁ =
+    1 ∷ 1 ∷ 1 ∷ 2
+    ∷ 99 ∷ 99 ∷ 99 ∷ 99
+    ∷ 1 ∷ 1 ∷ 1 ∷ 3
+    ∷ 9 ∷ 0 ∷ 0 ∷ 4
+    ∷ 2 ∷ 1 ∷ 0 ∷ 5
+    ∷ 7 ∷ 1 ∷ 0 ∷ 6
+    ∷ 8 ∷ 0 ∷ 0 ∷ 7
+    ∷ 3 ∷ 1 ∷ 0 ∷ 8
+    ∷ 8 ∷ 0 ∷ 0 ∷ 0
+    ∷ []
+
 pub record Known : Type 0 where
   p1 : (label 6 5 2 ≡ 15) × (label 6 1 6 ≡ 11) × (label 6 6 6 ≡ 36) × (place 6 15 ≡ (5, 2)) × (place 6 11 ≡ (1, 6)) × (place 6 36 ≡ (6, 6))
   p2 : compiles 2 (1 ∷ 2 ∷ 3 ∷ []) 4 92 ≡ written 4 3 23
@@ -278,6 +297,21 @@ pub record Known : Type 0 where
       × (many₂ 65 [] [] 0 ≡ noneRun 25 0)
       × (many₂ 2 (ints (1 ∷ 1 ∷ [])) (ints (1 ∷ 1 ∷ [])) 2 ≡ noneRun 14 0)
       × (many₂ 2 (ints (1 ∷ 1 ∷ [])) (int 1 ∷ int 1 ∷ inf false ∷ int 1 ∷ []) 4 ≡ noneRun 15 3)
+  -- A.10: a spare record put first; records after the compiler's last; another kind, p and q; another N, n and s, and a program of sweeps; what 5, 7 and 13
+  -- refuse; and the work slice, also after 5
+  e1 : compares 1 one 1 spaced₁ ≡ fine
+  e2 : compares 1 one 1 (changed 31 8 (compiled 1 one) ++ (1 ∷ 1 ∷ 1 ∷ 9 ∷ 9 ∷ 0 ∷ 0 ∷ 0 ∷ [])) ≡ Check.refusal 28 8
+  e3 : (compares 1 one 1 (changed 8 8 (compiled 1 one)) ≡ Check.refusal 28 2)
+      × (compares 2 full₂ 4 (changed 49 3 (compiled 2 full₂)) ≡ Check.refusal 28 12)
+      × (compares 2 full₂ 4 (changed 50 2 (compiled 2 full₂)) ≡ Check.refusal 28 12)
+  e4 : (compares 2 diagonal₂ 4 (compiled 1 one) ≡ Check.refusal 28 0)
+      × (compares 2 full₂ 4 (compiled 2 (1 ∷ 2 ∷ 3 ∷ [])) ≡ Check.refusal 28 0)
+      × (compares 2 diagonal₂ 4 (compacted 2 diagonal₂) ≡ Check.refusal 28 0)
+      × (compares 2 full₂ 4 (compiledSweep 2 full₂) ≡ Check.refusal 28 0)
+  e5 : (compares 2 (2 ∷ 3 ∷ []) 4 [] ≡ Check.refusal 5 1)
+      × (compares 1 one 1 [] ≡ Check.refusal 7 0)
+      × (compares 1 one 1 (changed 23 0 (compiled 1 one)) ≡ Check.refusal 13 0)
+  e6 : (workCompared 2 diagonal₂ (replicate 5 9) ≡ 1 ∷ 0 ∷ 0 ∷ 2 ∷ 9 ∷ []) × (workCompared 2 (2 ∷ 3 ∷ []) (replicate 5 9) ≡ 0 ∷ 0 ∷ 0 ∷ 0 ∷ 9 ∷ [])
   -- the listing for input `1 1`, a record a line
   listing : compiled 1 one
       ≡ 1 ∷ 1 ∷ 1 ∷ 1
@@ -300,8 +334,9 @@ unfolding rising falling joined kept total some count label column row places pl
     rowFormula rowFormulas plannedRows denseRows sweepRecord sweepRecords compiledSweep bareFrom bare positionNumbers
     movesMore moved sweeping fullTable denseOnce denseSweep
     judged orderly admits compilesBy slotNumbers workLeft workAfterBy
-    chainAfter chain kindOf belongs formed inOrder inTurn inRow allowed complete checkLinks checkFrom check step follow followed notFinite checkValues sweptOver ran
-    reply leaves parts ranMany readBy read replies sharedC leavesMany
+    chainAfter chain kindOf belongs formed inOrder inTurn inRow allowed complete checkLinks checkFrom check
+    step follow followed notFinite checkValues sweptOver ran reply leaves
+    parts ranMany readBy read replies sharedC leavesMany sameRecord compared compares workCompared
     mul sub div neg lt eq le ofInt
 known = record {
   p1 = (refl, refl, refl, refl, refl, refl);
@@ -343,5 +378,11 @@ known = record {
   m1 = (refl, refl);
   m2 = (refl, refl, refl, refl);
   m3 = (refl, refl, refl, refl, refl);
+  e1 = refl;
+  e2 = refl;
+  e3 = (refl, refl, refl);
+  e4 = (refl, refl, refl, refl);
+  e5 = (refl, refl, refl);
+  e6 = (refl, refl);
   listing = refl;
 }

@@ -4,5 +4,6 @@ pub mod Products
 pub mod Formulas
 pub mod Line
 pub mod Agree
+pub mod Numbers
 pub mod Whole
 pub mod Sweep

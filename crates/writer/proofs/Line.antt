@@ -23,8 +23,8 @@ use Rattle.writer.specs.Line.{Ready, Before, divisorOf, placeAt, lineAt,
 use Rattle.slots.specs.Batch.{rowOf, columnOf, firstOf}
 use Rattle.slots.proofs.Here.{line-inside, line-next}
 use Rattle.writer.specs.declared.Cursor.{Cursor}
-use Rattle.writer.proofs.Written.{Parts, wrote-none, product-left-out}
-use Rattle.writer.proofs.Products.{Rising, rising-starts, rising-room, rising-more, rising-ends}
+use Rattle.writer.proofs.Written.{Parts, product-left-out}
+use Rattle.writer.proofs.Products.{Rising, rising-starts, rising-room, rising-more, rising-over, rising-ends}
 
 -- ---- the plan's next label
 
@@ -113,7 +113,29 @@ module _ {n : ℕ} {L : Plan} {work inRows inColumns : List ℕ} (ready : Ready 
             step true = omega arith
             step false = omega arith
 
--- ---- along a line: the places before the t-th are done
+-- ---- along a line: the writer stands before its t-th place
+
+pub record OnLine (n : ℕ) (L : Plan) (across : Bool) (m : ℕ) (at : Cursor) (t : ℕ) : Type 0 where
+  pub low : firstOf across m ≤ t
+  pub before : Before n L (rowOf across m t) (columnOf across m t) at
+
+module _ {n : ℕ} {L : Plan} {across : Bool} {m : ℕ} {at : Cursor} {t : ℕ} (line : OnLine n L across m at t) where
+  -- that is (i, j)
+  module _ {i j : ℕ} (row : i ≡ rowOf across m t) (column : j ≡ columnOf across m t) where
+    pub line-place : Inside n m m → t ≤ n → Inside n i j × Before n L i j at
+    line-place inside below =
+        (rw (row, column) (line-inside n m t across (inside .row-low) (inside .row-high) (line .low) below .0), rw (row, column) (line .before))
+
+    pub place-of-line : (work : List ℕ) {divisor : ℕ} → divisor ≡ divisorOf n work across m → lineAt n L work across m t ≡ placeAt n L work divisor i j
+    unfolding lineAt
+    place-of-line work e = rw (row, column, e)
+
+  pub line-more : (after : Cursor) → (after .done ≡ suc (at .done)) × (after .passed ≡ passedBy L (after .done)) → OnLine n L across m after (t + 1)
+  line-more after moved =
+      let here = ap suc (line .before .here) ∙ sym (line-next n m t across (line .low)) in
+      record { low = omega (arith, line .low); before = record { here = rw (moved .0, add-one) here; passed = moved .1 } }
+
+-- ---- the places before the t-th are done
 
 pub record Along (n : ℕ) (L : Plan) (work : List ℕ) (across : Bool) (m k₀ : ℕ) (words₀ : List ℕ) (at : Cursor) (t : ℕ) (words : List ℕ) : Type 0 where
   pub rising : Rising (lineAt n L work across m) (firstOf across m) 0 k₀ (suc n) words₀ (at .next) t words
@@ -132,27 +154,24 @@ module _ {n : ℕ} {L : Plan} {work : List ℕ} {across : Bool} {m : ℕ} where
       first false = omega arith
 
   module _ {k₀ : ℕ} {words₀ : List ℕ} {at : Cursor} {t : ℕ} {words : List ℕ} (along : Along n L work across m k₀ words₀ at t words) where
+    on-line : OnLine n L across m at t
+    on-line = record { low = along .rising .low; before = along .before }
+
     -- the t-th place is (i, j)
     module _ (inside : Inside n m m) (below : t ≤ n) {i j divisor : ℕ} (row : i ≡ rowOf across m t) (column : j ≡ columnOf across m t)
         (e : divisor ≡ divisorOf n work across m) where
-      place-of-line : lineAt n L work across m t ≡ placeAt n L work divisor i j
-      unfolding lineAt
-      place-of-line = rw (row, column, e)
-
       pub along-place : Inside n i j × (Before n L i j at × Room 0 (at .next) (placeAt n L work divisor i j) words)
-      along-place = (
-        rw (row, column) (line-inside n m t across (inside .row-low) (inside .row-high) (along .rising .low) below .0),
-        (rw (row, column) (along .before), rw place-of-line at (rising-room (along .rising) (omega arith))),
-      )
+      along-place =
+          let place = line-place on-line row column inside below in
+          (place .0, (place .1, rw (place-of-line on-line row column work e) at (rising-room (along .rising) (omega arith))))
 
       pub along-more : (after : Cursor) {words′ : List ℕ} → Wrote 0 (at .next) (placeAt n L work divisor i j) words words′ (after .next)
           → (after .done ≡ suc (at .done)) × (after .passed ≡ passedBy L (after .done)) → Along n L work across m k₀ words₀ after (t + 1) words′
       along-more after wrote moved =
-          let here = ap suc (along .before .here) ∙ sym (line-next n m t across (along .rising .low)) in
           record {
-            rising = rising-more (along .rising) (omega arith) (rw place-of-line wrote);
+            rising = rising-more (along .rising) (omega arith) (rw (place-of-line on-line row column work e) wrote);
             high = omega arith;
-            before = record { here = rw (moved .0, add-one) here; passed = moved .1 };
+            before = line-more on-line after moved .before;
           }
 
     pub along-ends : n < t
@@ -182,20 +201,36 @@ line-long {n} {m = m} {t} across ready inside from below before =
     (omega (arith, last, range, before .here, covers .long), omega (arith, last, range, before .here, square))
 
 module _ {n : ℕ} {L : Plan} {work inRows inColumns : List ℕ} {across : Bool} {m : ℕ} (ready : Ready n L work inRows inColumns) (inside : Inside n m m) where
+  module _ {at : Cursor} {t : ℕ} (line : OnLine n L across m at t) where
+    pub line-skips : (d : ℕ) → t + d ≤ suc n → ((k : ℕ) → k < d → getD work (at .done + k) 0 ≡ 0)
+        → OnLine n L across m (record { next = at .next; done = at .done + d; passed = at .passed }) (t + d)
+    line-skips zero far none = rw (add-zero t, add-zero (at .done)) line
+    line-skips (suc d) far none =
+        let rest = line-skips d (omega arith) (λ k below. none k (omega arith)) in
+        let place = line-place rest refl refl inside (omega arith) in
+        let on : t + suc d ≡ t + d + 1 = omega arith in
+        let more : at .done + suc d ≡ at .done + d + 1 = omega arith in
+        rw on (line-more rest _ (omega arith, rw more (passed-left-out ready (place .0) (place .1) (none d (omega arith)))))
+
+    -- they have no records
+    pub line-none : (d : ℕ) → t + d ≤ suc n → ((k : ℕ) → k < d → getD work (at .done + k) 0 ≡ 0)
+        → (k : ℕ) → t ≤ k → k < t + d → lineAt n L work across m k ≡ []
+    line-none d far none k low high =
+        let there : t + (k - t) ≡ k = omega arith in
+        let rest = line-skips (k - t) (omega arith) (λ l below. none l (omega arith)) in
+        let place = line-place rest refl refl inside (omega arith) in
+        rw there at (place-of-line rest refl refl work refl
+        ∙ place-left-out ready (place .0) (at .done + (k - t)) (divisorOf n work across m) (place .1 .here) (none (k - t) (omega arith)))
+
   pub along-skips : {k₀ : ℕ} {words₀ words : List ℕ} {at : Cursor} {t : ℕ} → Along n L work across m k₀ words₀ at t words
       → (d : ℕ) → t + d ≤ suc n → ((k : ℕ) → k < d → getD work (at .done + k) 0 ≡ 0)
       → Along n L work across m k₀ words₀ (record { next = at .next; done = at .done + d; passed = at .passed }) (t + d) words
-  along-skips {at = at} {t} along zero far none = rw (add-zero t, add-zero (at .done)) along
-  along-skips {at = at} {t} along (suc d) far none =
-      let rest = along-skips along d (omega arith) (λ k below. none k (omega arith)) in
-      let here = along-place rest inside (omega arith) refl refl refl in
-      let empty = none d (omega arith) in
-      let nothing = place-left-out ready (here .0) (at .done + d) (divisorOf n work across m) (here .1 .0 .here) empty in
-      let on : t + suc d ≡ t + d + 1 = omega arith in
-      let after : Cursor = record { next = at .next; done = at .done + suc d; passed = at .passed } in
-      let more : at .done + suc d ≡ at .done + d + 1 = omega arith in
-      rw on (along-more rest inside (omega arith) refl refl refl after (rw nothing wrote-none)
-      (omega arith, rw more (passed-left-out ready (here .0) (here .1 .0) empty)))
+  along-skips along d far none =
+      record {
+        rising = rising-over (along .rising) d (λ k low high below. line-none (on-line along) d far none k low high);
+        high = far;
+        before = line-skips (on-line along) d far none .before;
+      }
 
 -- ---- batch m: its column, y(m) and its row
 

@@ -66,20 +66,20 @@ label-downward n h j x s e f low below inside = rw add-one (omega (arith, label-
 -- ---- h rising
 
 module _ (f : ℕ → List Record) where
-  rising-joined : (h m : ℕ) → h < m → joined (rising f h (m - h)) ≡ f h ++ joined (rising f (h + 1) (m - (h + 1)))
+  pub rising-joined : (h m : ℕ) → h < m → joined (rising f h (m - h)) ≡ f h ++ joined (rising f (h + 1) (m - (h + 1)))
   unfolding joined rising
   rising-joined h m below =
       let more : m - h ≡ suc (m - suc h) = omega arith in
       rw (more, add-one)
 
-  rising-none : (h m : ℕ) → m ≤ h → joined (rising f h (m - h)) ≡ []
+  pub rising-none : (h m : ℕ) → m ≤ h → joined (rising f h (m - h)) ≡ []
   unfolding joined rising
   rising-none h m past =
       let none : m - h ≡ 0 = omega arith in
       rw none
 
   -- what is left out may be skipped
-  skipped : (h d m : ℕ) → ((k : ℕ) → h ≤ k → k < h + d → k < m → f k ≡ []) → joined (rising f h (m - h)) ≡ joined (rising f (h + d) (m - (h + d)))
+  pub skipped : (h d m : ℕ) → ((k : ℕ) → h ≤ k → k < h + d → k < m → f k ≡ []) → joined (rising f h (m - h)) ≡ joined (rising f (h + d) (m - (h + d)))
   skipped h zero m none = let same : h + 0 ≡ h = omega arith in rw same
   skipped h (suc d) m none = elim (decLe m h) [
     | yes past ↦ ended past
@@ -121,6 +121,10 @@ module _ {f : ℕ → List Record} {a o k₀ m : ℕ} {ws₀ : List ℕ} where
     pub rising-more : {ws′ : List ℕ} {k′ : ℕ} → h < m → Wrote o k (f h) ws ws′ k′ → Rising f a o k₀ m ws₀ k′ (h + 1) ws′
     rising-more below wrote = record { low = omega arith; writing = writing-more (r .writing) wrote (rising-joined f h m below) }
 
+    -- over d that have none
+    pub rising-over : (d : ℕ) → ((k : ℕ) → h ≤ k → k < h + d → k < m → f k ≡ []) → Rising f a o k₀ m ws₀ k (h + d) ws
+    rising-over d none = record { low = omega arith; writing = writing-more (r .writing) wrote-none (skipped f h d m none) }
+
     pub rising-ends : m ≤ h → Wrote o k₀ (joined (rising f a (m - a))) ws₀ ws k
     rising-ends past = writing-ends (r .writing) wrote-none (rising-none f h m past)
 
@@ -133,13 +137,13 @@ pub record Falling (f : ℕ → List Record) (o k₀ n i : ℕ) (ws₀ : List �
   pub writing : Writing o k₀ (downTo f n i) ws₀ k (joined (falling f h (h - i))) ws
 
 module _ (f : ℕ → List Record) where
-  falling-joined : (h i : ℕ) → i < h → joined (falling f h (h - i)) ≡ f h ++ joined (falling f (h - 1) (h - 1 - i))
+  pub falling-joined : (h i : ℕ) → i < h → joined (falling f h (h - i)) ≡ f h ++ joined (falling f (h - 1) (h - 1 - i))
   unfolding joined falling
   falling-joined h i above =
       let more : h - i ≡ suc (h - 1 - i) = omega arith in
       rw more
 
-  falling-none : (h i : ℕ) → h ≤ i → joined (falling f h (h - i)) ≡ []
+  pub falling-none : (h i : ℕ) → h ≤ i → joined (falling f h (h - i)) ≡ []
   unfolding joined falling
   falling-none h i past =
       let none : h - i ≡ 0 = omega arith in

@@ -4,20 +4,22 @@ use native.Mathlib.Nat.{mul-le-mul}
 use native.Mathlib.Decide.{decLe}
 use native.Mathlib.Omega.{arith}
 use mathlib.Core.Path.{_≡_, ap, _∙_}
-use mathlib.Core.Bool.{false}
+use mathlib.Core.Bool.{true, false}
 use mathlib.Core.List.{List, [], _∷_, _++_}
 use borrow.Author.Tests.{ltb-true, ltb-false}
 use lib.Dec.{eqb·suc-zero}
 use lib.ListN.{length, drop, set, length-drop}
 use lib.Seq.{drop-drop}
-use Rattle.model.specs.Label.{label}
+use Rattle.model.specs.Label.{label, isOrder}
 use Rattle.model.specs.Fill.{Plan, position, held, recordCount}
 use Rattle.model.specs.Program.{Record, chained, program}
+use Rattle.model.specs.Compile.{judged, good}
 use Rattle.model.proofs.Labels.{Inside, label-range}
 use Rattle.model.proofs.Fill.{held-in-plan}
 use Rattle.model.proofs.Within.{within-range}
 use Rattle.model.proofs.Plans.{plan-length}
 use Rattle.model.proofs.Bounds.{records-at-most}
+use Rattle.slots.specs.Skips.{Skips}
 use Rattle.writer.specs.Prepared.{Prepared}
 use Rattle.writer.specs.Written.{linked, pasted, Room, Wrote}
 use Rattle.writer.specs.Worked.{numberAt, keptAt}
@@ -73,30 +75,37 @@ module _ {L : Plan} {records : List Record} {words headed : List ℕ} (n s : ℕ
 
 -- ---- Crout's program
 
-module _ {n : ℕ} {L : Plan} {work inRows inColumns words : List ℕ} (p : Prepared n L work inRows inColumns words) where
+-- exactly the held places have a work number
+module _ (n : ℕ) (L : Plan) (work : List ℕ) (kept : (i j : ℕ) → Inside n i j → keptAt n work i j ≡ held n L i j) where
   not-kept : (i j : ℕ) → Inside n i j → held n L i j ≡ false → numberAt n work i j ≡ 0
   unfolding keptAt
-  not-kept i j inside out = omega (arith, ltb-false 0 (numberAt n work i j) (p .kept i j inside ∙ out))
+  not-kept i j inside out = omega (arith, ltb-false 0 (numberAt n work i j) (kept i j inside ∙ out))
 
   none-planned : (i j : ℕ) → Inside n i j → numberAt n work i j ≡ 0 → position L (label n i j) ≡ 0
   unfolding keptAt
   none-planned i j inside none = elim (decLe 1 (position L (label n i j))) [
-    | yes there ↦ absurd (omega (arith, ltb-true 0 (numberAt n work i j) (p .kept i j inside ∙ held-in-plan n L i j there)))
+    | yes there ↦ absurd (omega (arith, ltb-true 0 (numberAt n work i j) (kept i j inside ∙ held-in-plan n L i j there)))
     | no out ↦ omega arith
   ]
 
-  pub ready : Ready n L work inRows inColumns
-  ready =
-      let range = within-range n 600 (p .order) in
+  -- with the notes of rows and columns they are what a writer wants
+  pub kept-ready : {inRows inColumns : List ℕ} → isOrder n ≡ true → judged n 0 1 L ≡ good → n * n ≤ length work → length inRows ≡ 601
+      → length inColumns ≡ 601 → Skips n L (n * n) inRows inColumns → Ready n L work inRows inColumns
+  kept-ready order rises covers row-count column-count skips =
+      let range = within-range n 600 order in
       record {
-        covers = record { low = range .0; high = range .1; long = p .covers };
-        rises = p .rises;
-        row-count = p .row-count;
-        column-count = p .column-count;
-        rows = λ i h inside below. not-kept i h inside (p .skips .rows i h inside (label-range n i h inside .1) below);
-        columns = λ h j inside below. not-kept h j inside (p .skips .columns j h inside (label-range n h j inside .1) below);
+        covers = record { low = range .0; high = range .1; long = covers };
+        rises = rises;
+        row-count = row-count;
+        column-count = column-count;
+        rows = λ i h inside below. not-kept i h inside (skips .rows i h inside (label-range n i h inside .1) below);
+        columns = λ h j inside below. not-kept h j inside (skips .columns j h inside (label-range n h j inside .1) below);
         planned = none-planned;
       }
+
+module _ {n : ℕ} {L : Plan} {work inRows inColumns words : List ℕ} (p : Prepared n L work inRows inColumns words) where
+  pub ready : Ready n L work inRows inColumns
+  ready = kept-ready n L work (p .kept) (p .order) (p .rises) (p .covers) (p .row-count) (p .column-count) (p .skips)
 
   pub plan-counted : Counted L (planRecords n L work) words
   unfolding recordCount

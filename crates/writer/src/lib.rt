@@ -184,7 +184,7 @@ fn write_line(
 }
 
 // The next place, (i, j): its formula, if it is held, goes into the rest of the words, lent from the next free record on.
-fn write_next(
+pub fn write_next(
     n: u32,
     plan: &[u32],
     work: &[u32],
@@ -288,7 +288,7 @@ fn closing(i: u32, j: u32) -> u32
 }
 
 // y(m), divided by the pivot. No product is kept for an h below from.
-fn write_forward(
+pub fn write_forward(
     n: u32,
     work: &[u32],
     rest: &mut [u32],
@@ -312,7 +312,7 @@ fn write_forward(
 }
 
 // x(i).
-fn write_backward(n: u32, work: &[u32], rest: &mut [u32], k: u32, i: u32) -> u32
+pub fn write_backward(n: u32, work: &[u32], rest: &mut [u32], k: u32, i: u32) -> u32
     requires { ⌜ Covers n (now work) ⌝ }
     requires { ⌜ Inside n i i ⌝ }
     requires { ⌜ Room k k (recordsOf (backward n [] (numberAt n (now work)) (keptAt n (now work)) i)) (now rest) ⌝ }

@@ -26,6 +26,7 @@ macro_rules! call {
     };
 }
 
+pub mod compare;
 pub mod compile;
 pub mod file;
 pub mod labels;

@@ -157,3 +157,9 @@ pub fn check_with(len: usize, word: impl Fn(usize) -> u32) -> Verdict {
     }
     if progress.complete(&head) { Ok(()) } else { Err((13, 0)) }
 }
+
+/// The records of the chain in order, without record 0. The words have passed the check.
+pub fn chain(words: &[u32]) -> Vec<u64> {
+    let next = |at: u64| Some(u64::from(words[4 * at as usize + 3])).filter(|&next| next != 0);
+    std::iter::successors(next(0), |&at| next(at)).collect()
+}

@@ -1,7 +1,7 @@
 //! Document 02, A.6: many right sides. Each is run alone, on its parts of B, Y and X and a C of its own, by the reading's run; what they
 //! share is put together afterwards.
 
-use super::check::check;
+use super::check::{chain, check};
 use super::run::{self, Outcome, not_finite};
 use super::{Refusal, Verdict};
 
@@ -19,12 +19,6 @@ fn check_crout(words: &[u32]) -> Verdict {
         _ if words[2] == 0 => Err((8, 0)),
         verdict => verdict,
     }
-}
-
-/// The records of the chain in order, without record 0.
-fn chain(words: &[u32]) -> Vec<u64> {
-    let next = |at: u64| Some(u64::from(words[4 * at as usize + 3])).filter(|&next| next != 0);
-    std::iter::successors(next(0), |&at| next(at)).collect()
 }
 
 /// "The chain's length if any right side is solved, else the count up to the latest record that refused one."

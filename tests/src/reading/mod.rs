@@ -2,6 +2,7 @@
 
 pub mod check;
 pub mod compact;
+pub mod compare;
 pub mod dense;
 pub mod file;
 pub mod labels;

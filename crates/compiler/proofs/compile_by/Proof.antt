@@ -1,58 +1,34 @@
--- `compiler::compile_by` answers and leaves what the model says: each refusal by the first check that fails.
-use Prim.Native.Nat.{_≤_}
+-- `compiler::compile_by` answers and leaves what the model says: a refusal of 1 to 4, or what follows them.
 use native.Mathlib.Omega.{arith}
 use mathlib.Core.Path.{_≡_, sym, ap, _∙_}
-use mathlib.Core.Bool.{true}
 use denote.Ref.{now}
 use lib.ListN.{length}
 use borrow.Author.Needs.{needs}
-use borrow.Author.Tests.{not-true, not-false}
-use Rattle.model.specs.Label.{isOrder}
-use Rattle.model.specs.Compile.{wanted}
-use Rattle.model.proofs.Within.{within-range}
-use Rattle.model.proofs.Compiles.{ends-order, ends-labels}
+use Rattle.model.specs.Compile.{orderly, wanted}
+use Rattle.model.proofs.Compiles.{ends-orderly}
+use Rattle.plans.specs.Judge.{labelsOf}
 use Rattle.compiler.specs.Compilation.{compilerOf}
-use Rattle.compiler.specs.Judge.{labelsOf}
-use Rattle.compiler.proofs.Ending.{room-ends}
+use Rattle.compiler.proofs.Compilers.{wanted-each, each-range}
 use Rattle.compiler.proofs.compile_by.Statement.{statement}
 use Rattle.compiler.proofs.compile_by.Tie as tie
 
--- Places of the code: past check 1, with the entry before it; and past check 2.
-abbrev entry : tie.Else1 → tie.Start
+-- Places of the code: past checks 1 to 4, with the entry before them.
+abbrev entry : tie.After-check → tie.Start
 entry c = c .before .before .before .before .before
 
-abbrev Sized : Type 0
-Sized = tie.Else2
+-- how they end in the model
+told : (c : tie.After-check) → let a = entry c .args in
+    orderly (wanted (compilerOf (a .method)) (a .n)) (a .n) (now (a .plan)) (length (now (a .work))) ≡ labelsOf (c .check .result)
+told c =
+    let a = entry c .args in
+    ap (λ k. orderly k (a .n) (now (a .plan)) (length (now (a .work)))) (sym (wanted-each (compilerOf (a .method)) (a .n) (c .before .each .ensures)))
+    ∙ sym (c .check .ensures)
 
-abbrev ordered : Sized → tie.Else1
-ordered c = c .before .before .before
+each-requires : tie.Need-each-requires
+each-requires c κs = search needs
 
-in-order : (k : tie.Else1) → isOrder (entry k .args .n) ≡ true
-in-order k = sym (k .before .within .ensures) ∙ not-false _ (k .if1 .left)
-
-roomy : (k : Sized) → let a = entry (ordered k) .args in wanted (compilerOf (a .method)) (a .n) ≤ length (now (a .work))
-roomy k = omega (arith, k .before .before .wanted .ensures)
-
-within-requires : tie.Need-within-requires
-within-requires c κs = search needs
-
-returns : tie.Need-returns
-returns c = ends-order _ _ _ _ _ (sym (c .before .within .ensures) ∙ not-true _ (c .if1 .taken))
-
-wanted-requires : tie.Need-wanted-requires
-wanted-requires c κs = within-range _ 600 (in-order c) .1
-
-wide-requires : tie.Need-wide-requires
-wide-requires c κs = search needs
-
-cast-t13 : tie.Need-cast-t13
-cast-t13 c = search needs
-
-returns-2 : tie.Need-returns-2
-returns-2 c = let k = c .before .before in room-ends (k .wanted .ensures) (in-order (k .before)) (omega arith)
-
-judge-requires : tie.Need-judge-requires
-judge-requires c κs = within-range _ 600 (in-order (ordered c)) .1
+check-requires : tie.Need-check-requires
+check-requires c κs = omega (arith, c .each .ensures, each-range (compilerOf (c .before .before .before .before .args .method)))
 
 enum-known-number : tie.Need-enum-known-number
 enum-known-number c = search needs
@@ -61,16 +37,10 @@ enum-told : tie.Need-enum-told
 enum-told c = search needs
 
 compile-good-requires : tie.Need-compile-good-requires
-compile-good-requires c κs =
-    let judge = c .before .before .before .before in
-    let labels = sym (judge .judge .ensures) ∙ ap labelsOf (c .before .before .enum-told .given .1) in
-    (in-order (ordered (judge .before)), (labels, roomy (judge .before)))
+compile-good-requires c κs = told (c .before .before .before .before) ∙ ap labelsOf (c .before .before .enum-told .given .1)
 
-returns-3 : tie.Need-returns-3
-returns-3 c =
-    let judge = c .before .before .before in
-    let labels = sym (judge .judge .ensures) ∙ ap labelsOf (c .before .number .given .1) in
-    ends-labels _ _ _ _ _ _ _ (in-order (ordered (judge .before))) (roomy (judge .before)) labels
+returns : tie.Need-returns
+returns c = ends-orderly _ _ _ _ _ _ _ (told (c .before .before .before) ∙ ap labelsOf (c .before .number .given .1))
 
 same-length : tie.Need-same-length
 same-length c = search needs
@@ -78,24 +48,19 @@ same-length c = search needs
 same-length-2 : tie.Need-same-length-2
 same-length-2 c = search needs
 
-returns-4 : tie.Need-returns-4
-returns-4 c = search needs
+returns-2 : tie.Need-returns-2
+returns-2 c = search needs
 
 pub compile-by-spec : {M : Type 1} → statement M
 compile-by-spec =
     tie.close
     (tie.spec
-    within-requires
-    returns
-    wanted-requires
-    wide-requires
-    cast-t13
-    returns-2
-    judge-requires
+    each-requires
+    check-requires
     enum-known-number
     enum-told
     compile-good-requires
-    returns-3
+    returns
     same-length
     same-length-2
-    returns-4)
+    returns-2)

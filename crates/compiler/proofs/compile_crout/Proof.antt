@@ -1,110 +1,70 @@
 -- `compiler::compile_crout` ends as the model says: each way out is a law of `Ending`.
-use Prim.Native.Nat.{_+_, _*_, _≤_}
 use native.Mathlib.Omega.{arith}
-use native.Mathlib.Nat.{mul-le-mul}
-use mathlib.Core.Path.{refl, ap, _∙_}
+use mathlib.Core.Path.{_≡_, refl, sym, ap, _∙_}
+use mathlib.Core.Logic.{⊎-elim}
 use denote.Ref.{now}
 use lib.ListN.{length}
 use borrow.Author.Needs.{needs}
-use Rattle.model.proofs.Within.{within-range}
-use Rattle.compiler.specs.Compilation.{croutOf}
+use Rattle.model.specs.Compile.{orderly}
+use Rattle.compiler.specs.Compilation.{croutOf, eachOf}
 use Rattle.compiler.specs.Slotted.{Slotted}
-use Rattle.compiler.proofs.Compilers.{wanted-is, wanted-fits}
-use Rattle.compiler.proofs.Ending.{roomy, missing-ends}
+use Rattle.compiler.proofs.Compilers.{wanted-each, each-range}
+use Rattle.compiler.proofs.Ending.{missing-ends}
 use Rattle.compiler.proofs.compile_crout.Statement.{statement}
 use Rattle.compiler.proofs.compile_crout.Tie as tie
 
--- Places of the code: where the plan is marked, with the entry before it, where the places are filled, and where a pivot is found missing or none.
-abbrev Marked : Type 0
-Marked = tie.After-mark
+-- Places of the code: where the work numbers for each place are known, with the entry before it, where the slots are made, and where a pivot is found
+-- missing or none.
+abbrev Known : Type 0
+Known = tie.Joined1
 
-abbrev entry : Marked → tie.Start
-entry c = c .before .before .before .before .before
+abbrev entry : Known → tie.Start
+entry c = c .before .before .before .before
 
-abbrev Filled : Type 0
-Filled = tie.After-fill
+abbrev known : tie.After-slot → Known
+known c = c .before .before .before .before
 
-abbrev marked : Filled → Marked
-marked c = c .before .before .before .before .before .before
+abbrev gone : tie.Then2 → tie.After-slot
+gone c = c .before .before .before .before .before
 
-abbrev gone : tie.After-spare → tie.Then1
-gone c = c .before .before
-
-abbrev filled : tie.Then1 → Filled
-filled c = c .before .before .before .before .before
-
-abbrev whole : tie.Else1 → Filled
+abbrev whole : tie.Else2 → tie.After-slot
 whole c = c .before .before .before .before .before
 
-ordered : (c : tie.Start) → c .args .n ≤ 600
-ordered c = within-range (c .args .n) 600 (c .pre .0) .1
+each-is : (c : Known) → c .if1 .each ≡ eachOf (croutOf (entry c .args .again))
+each-is c =
+    ⊎-elim (λ w. w .1 ∙ sym (ap (λ b. eachOf (croutOf b)) (w .0 .taken))) (λ w. w .1 ∙ sym (ap (λ b. eachOf (croutOf b)) (w .0 .left))) (c .if1 .came)
 
-covers : (c : tie.Start) → c .args .n * c .args .n ≤ length (now (c .args .work))
-covers c = omega (arith, c .pre .1 .1, wanted-is (croutOf (c .args .again)) (c .args .n))
+slotted : (c : tie.Else2) → let s = whole c in let a = entry (known s) .args in let l = s .slot .last .1 .1 in
+    Slotted (a .again) (a .n) (now (a .plan)) (now (a .work)) (l .0) (l .1 .0) (l .1 .1 .0) (s .slot .result)
+slotted c = let s = whole c in record { passed = entry (known s) .pre; filled = s .slot .ensures .filled (c .if2 .left) }
 
-slotted : (c : Filled) → let a = entry (marked c) .args in let l = c .fill .last .1 in
-    Slotted (a .again) (a .n) (now (a .plan)) (now (a .work)) (l .0) (l .1 .0) (l .1 .1 .0) (c .fill .result)
-slotted c =
-    let p = entry (marked c) .pre in
-    let m = marked c .mark .ensures in
-    record { order = p .0; labels = p .1 .0; room = p .1 .1; marks = _; rest = m .rest; filled = c .fill .ensures _ (m .marked) }
+slice-aggregate-slot : tie.Need-slice-aggregate-slot
+slice-aggregate-slot c = search needs
 
-mark-requires : tie.Need-mark-requires
-mark-requires c κs = let e = c .before .before .before .before in (e .pre .0, (e .pre .1 .0, covers e))
+slice-aggregate-slot-2 : tie.Need-slice-aggregate-slot-2
+slice-aggregate-slot-2 c = search needs
 
-slice-aggregate-fill : tie.Need-slice-aggregate-fill
-slice-aggregate-fill c = search needs
-
-slice-aggregate-fill-2 : tie.Need-slice-aggregate-fill-2
-slice-aggregate-fill-2 c = search needs
-
-fill-requires : tie.Need-fill-requires
-fill-requires c κs =
-    let m = c .before .before .before .before .before in
-    let e = entry m in
-    (e .pre .0, (omega (arith, covers e, m .mark .ensures .size), (refl, refl)))
-
-mul-wide : tie.Need-mul-wide
-mul-wide c = let n = ordered (entry (marked (filled (c .before)))) in omega (arith, mul-le-mul {n₂ = 600} {m₂ = 600} n n)
-
-spare-requires : tie.Need-spare-requires
-spare-requires c κs = ordered (entry (marked (filled (c .before))))
-
-add-wide : tie.Need-add-wide
-add-wide c =
-    let e = entry (marked (filled (gone c))) in
-    let n = ordered e in
-    omega (
-      arith,
-      c .spare .ensures,
-      wanted-is (croutOf (e .args .again)) (e .args .n),
-      wanted-fits (croutOf (e .args .again)) (e .args .n)
-          (omega (arith, mul-le-mul {n₂ = 600} {m₂ = 600} n n)),
+slot-requires : tie.Need-slot-requires
+slot-requires c κs =
+    let k = c .before .before .before in
+    let e = entry k in
+    let a = e .args in
+    let wants = wanted-each (croutOf (a .again)) (a .n) (each-is k) in (
+      ap (λ w. orderly w (a .n) (now (a .plan)) (length (now (a .work)))) wants ∙ e .pre,
+      (omega (arith, each-is k, each-range (croutOf (a .again))), (refl, refl)),
     )
 
-wide-requires : tie.Need-wide-requires
-wide-requires c κs = search needs
-
-clear-requires : tie.Need-clear-requires
-clear-requires c κs =
-    let s = c .before in
-    let f = filled (gone s) in
-    let a = entry (marked f) .args in
-    omega (arith, roomy (slotted f), wanted-is (croutOf (a .again)) (a .n), c .wide .ensures, s .spare .ensures)
-
-cast-t27 : tie.Need-cast-t27
-cast-t27 c = search needs
+cast-t19 : tie.Need-cast-t19
+cast-t19 c = search needs
 
 same-length : tie.Need-same-length
 same-length c = search needs
 
 returns : tie.Need-returns
 returns c =
-    let done = c .before .before in
-    let w = done .before in
-    let s = w .before in
-    let n = entry (marked (filled (gone s))) .args .n in
-    missing-ends (slotted (filled (gone s))) _ (gone s .if1 .taken) (w .wide .ensures ∙ ap (λ k. n * n + k) (s .spare .ensures)) (done .clear .ensures)
+    let s = gone c in
+    let k = known s in
+    missing-ends (entry k .args .again) _ (entry k .pre) (each-is k) (s .slot .ensures) (c .if2 .taken)
 
 slice-aggregate-compile-filled : tie.Need-slice-aggregate-compile-filled
 slice-aggregate-compile-filled c = search needs
@@ -115,7 +75,7 @@ slice-aggregate-compile-filled-2 c = search needs
 compile-filled-requires : tie.Need-compile-filled-requires
 compile-filled-requires c κs =
     let complete = c .before .before .before .before in
-    (record { before = _; slotted = slotted (whole complete) }, complete .if1 .left)
+    (record { before = _; slotted = slotted complete }, complete .if2 .left)
 
 same-length-2 : tie.Need-same-length-2
 same-length-2 c = search needs
@@ -126,22 +86,16 @@ same-length-3 c = search needs
 returns-2 : tie.Need-returns-2
 returns-2 c =
     let d = c .before .before .before .before in
-    d .compile-filled .ensures _ (slotted (whole (d .before .before .before .before .before)))
+    d .compile-filled .ensures _ (slotted (d .before .before .before .before .before))
 
 pub compile-crout-spec : {M : Type 1} → statement M
 compile-crout-spec =
     tie.close
     (tie.spec
-    mark-requires
-    slice-aggregate-fill
-    slice-aggregate-fill-2
-    fill-requires
-    mul-wide
-    spare-requires
-    add-wide
-    wide-requires
-    clear-requires
-    cast-t27
+    slice-aggregate-slot
+    slice-aggregate-slot-2
+    slot-requires
+    cast-t19
     same-length
     returns
     slice-aggregate-compile-filled

@@ -7,11 +7,10 @@ use denote.Ref.{now}
 use lib.ListN.{length, length-drop}
 use borrow.Author.Needs.{needs}
 use Rattle.model.specs.Compile.{wanted, spare}
-use Rattle.model.proofs.Within.{within-range}
 use Rattle.compiler.specs.Compilation.{croutOf}
 use Rattle.compiler.proofs.Parts.{whole-part}
 use Rattle.compiler.proofs.Compilers.{wanted-is}
-use Rattle.compiler.proofs.Ending.{roomy, records-fit, none, short-ends, prepared, plain-ends, compact-ends}
+use Rattle.compiler.proofs.Ending.{high, roomy, records-fit, none, short-ends, prepared, plain-ends, compact-ends}
 use Rattle.compiler.proofs.compile_filled.Statement.{statement}
 use Rattle.compiler.proofs.compile_filled.Tie as tie
 
@@ -35,7 +34,7 @@ abbrev counted-short : tie.Then1 → Counted
 counted-short c = c .before .before
 
 ordered : (c : tie.Start) → c .args .n ≤ 600
-ordered c = within-range (c .args .n) 600 (c .pre .0 .slotted .order) .1
+ordered c = high (c .pre .0 .slotted)
 
 covers : (c : tie.After-wide2) → let a = entry (counted-short (short c)) .args in c .wide2 .result ≤ length (now (a .work))
 covers c =

@@ -12,7 +12,8 @@ use Rattle.model.specs.Run.{Outcome}
 use Rattle.model.specs.Many.{sides, replies, leavesMany}
 use Rattle.model.specs.Boundary.{manyNumbers}
 use Rattle.many.specs.Passes.{endings}
-use Rattle.many.proofs.Calls.{head-fits, few-sides}
+use Rattle.many.proofs.Calls.{head-fits}
+use Rattle.many.proofs.Passing.{few-sides}
 use Rattle.many.proofs.Report.{numbers-told, left-y, left-x, left-c, left-c-none}
 use Rattle.many.proofs.run_sides.Statement.{statement}
 use Rattle.many.proofs.run_sides.Tie as tie
@@ -57,7 +58,7 @@ long-x c = c .pass .kept .1 .1 .1 .1 .1 .1 .1 .0 ∙ start c .pre .0 .in-x ∙ a
 small : (c : tie.After-pass) → (start c .args .count ≤ 64) × (ordered c .wide .result ≤ 600)
 small c =
     let fits = start c .pre .0 in
-    (few-sides fits, omega (arith, ordered c .wide .ensures, head-fits (start c .args .words .now) (fits .checked)))
+    (few-sides fits .1, omega (arith, ordered c .wide .ensures, head-fits (start c .args .words .now) (fits .checked)))
 
 shared-slice-read-wide : tie.Need-shared-slice-read-wide
 shared-slice-read-wide c = omega (arith, head-fits _ (entry c .pre .0 .checked))

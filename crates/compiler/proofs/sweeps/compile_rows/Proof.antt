@@ -5,6 +5,7 @@ use denote.Ref.{now}
 use lib.ListN.{length}
 use borrow.Author.Needs.{needs}
 use Rattle.model.specs.Compile.{sweep, recordsBy}
+use Rattle.model.proofs.Compiles.{orderly-good}
 use Rattle.compiler.proofs.Sweeping.{Placed, covers, labels-few, bare-ends, labels-enough, short-sweep, rows-planned, sweep-ends}
 use Rattle.compiler.proofs.sweeps.compile_rows.Statement.{statement}
 use Rattle.compiler.proofs.sweeps.compile_rows.Tie as tie
@@ -29,13 +30,13 @@ abbrev complete : tie.Else2 → Complete
 complete c = c .before .before
 
 placed : (c : tie.After-mark) → let a = entry c .args in Placed (a .n) (now (a .plan)) (now (a .work)) (c .mark .last .1 .1 .0)
-placed c = let p = entry c .pre in record { order = p .0; labels = p .1 .0; room = p .1 .1; marked = c .mark .ensures }
+placed c = record { passed = entry c .pre; marked = c .mark .ensures }
 
 few : (c : Sought) → let a = entry (marked c) .args in (a .n * a .n ≤ 360000) × (length (now (a .plan)) ≤ 360000)
 few c = labels-few (placed (marked c))
 
 mark-requires : tie.Need-mark-requires
-mark-requires c κs = search needs
+mark-requires c κs = orderly-good _ _ _ _ (c .before .before .before .before .pre)
 
 first-bare-requires : tie.Need-first-bare-requires
 first-bare-requires c κs = covers (placed (c .before .before .before))
@@ -47,7 +48,7 @@ wide-requires : tie.Need-wide-requires
 wide-requires c κs = search needs
 
 clear-requires : tie.Need-clear-requires
-clear-requires c κs = search needs
+clear-requires c κs = omega (arith, c .wide .ensures, covers (placed (marked (sought (c .before .before)))))
 
 cast-t19 : tie.Need-cast-t19
 cast-t19 c = search needs

@@ -1,4 +1,5 @@
--- `checks::judge` judges the labels one by one. The invariant: those left, judged after the one before, are judged as the whole plan is.
+-- `plans::judge` judges the labels one by one. The invariant: those left, judged after the one before, are judged as the whole plan is. The measure: how
+-- many are left.
 use Prim.Native.Nat.{suc, _*_, _≤_, _-_}
 use native.Mathlib.Nat.{mul-le-mul}
 use native.Mathlib.Numerals.{add-one}
@@ -11,8 +12,8 @@ use lib.ListN.{length, getD, drop}
 use Rattle.model.specs.Label.{within}
 use Rattle.model.specs.Compile.{judged, bad}
 use Rattle.model.proofs.Judging.{judged-end, judged-outside, judged-fallen, judged-onward}
-use Rattle.compiler.proofs.checks.judge.Statement.{statement}
-use Rattle.compiler.proofs.checks.judge.Tie as tie
+use Rattle.plans.proofs.judge.Statement.{statement}
+use Rattle.plans.proofs.judge.Tie as tie
 
 abbrev Inv-loop : tie.InvT-loop
 Inv-loop n plan top before₀ k₀ before k = (k ≤ length plan) × (judged n 0 1 plan ≡ judged n before (suc k) (drop k plan))

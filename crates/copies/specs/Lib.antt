@@ -1,0 +1,3 @@
+-- What the contracts of `copies` cite.
+pub mod Beside
+pub mod Compared

@@ -1,0 +1,2 @@
+-- The laws that the proofs of `plans` share.
+pub mod Wanted
