@@ -4,24 +4,21 @@ use native.Mathlib.Omega.{arith}
 use mathlib.Core.Path.{_≡_, refl, sym, ap, _∙_}
 use mathlib.Core.Bool.{Bool, true, false, cond}
 use mathlib.Core.List.{List, [], _∷_}
-use lib.Dec.{ltb}
 use lib.ListN.{length}
-use borrow.Author.Tests.{ltb-true}
 use Rattle.model.specs.Lists.{rising}
 use Rattle.model.specs.Program.{Record}
-use Rattle.model.specs.Check.{recordAt, nextOf, Link, Verdict, fine, refusal, whole, broken}
+use Rattle.model.specs.Check.{recordAt, nextOf, Verdict, fine, refusal}
 use Rattle.model.specs.Compare.{sameRecord, compared}
-use Rattle.model.proofs.Passing.{both}
+use Rattle.model.proofs.Passing.{next-range}
 use Rattle.model.proofs.Following.{follows, chainFrom, chain-ends, chain-breaks, chain-goes}
+use Rattle.model.proofs.Reached.{linkAt}
+use Rattle.model.proofs.Spaced.{broken-whole}
 use Rattle.copies.specs.Beside.{OnChain, told, Leads}
 use Rattle.copies.specs.Compared.{firstRecords}
 use Rattle.copies.specs.declared.Compared.{Compared}
 use Rattle.copies.proofs.Leading.{Comparing, comparing-starts, comparing-more, comparing-ends, comparing-over}
 
 -- ---- the chain after record k
-
-abbrev linkAt : List ℕ → ℕ → Link
-linkAt W n = record { index = n; at = recordAt W n }
 
 module _ {W : List ℕ} {k : ℕ} (on : OnChain W k) where
   -- the words of record k can be read
@@ -33,13 +30,8 @@ module _ {W : List ℕ} {k : ℕ} (on : OnChain W k) where
   next-follows some = step (follows W k (nextOf W k)) refl
     where
       step : (b : Bool) → follows W k (nextOf W k) ≡ b → (k < nextOf W k) × (nextOf W k < length W / 4)
-      step true e =
-          let tests = both (ltb k (nextOf W k)) (ltb (nextOf W k) (length W / 4)) e in
-          (ltb-true k (nextOf W k) (tests .0), ltb-true (nextOf W k) (length W / 4) (tests .1))
-      step false e =
-          let ends : broken k ≡ whole = sym (ap (λ c. c .end) (chain-breaks W k some e)) ∙ on .ends in
-          let z : _≡_ {A = ℕ} 0 1 = cc in
-          absurd (omega arith)
+      step true e = next-range k (nextOf W k) (length W / 4) e
+      step false e = absurd (broken-whole k (sym (ap (λ c. c .end) (chain-breaks W k some e)) ∙ on .ends))
 
   -- the records after k: none, or its next and those after that
   links-end : nextOf W k ≡ 0 → chainFrom W k .links ≡ []

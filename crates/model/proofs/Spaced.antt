@@ -26,7 +26,7 @@ use Rattle.model.proofs.Compared.{copies-accepted}
 abbrev content : Chain → List Record × End
 content c = (recordsOn (c .links), c .end)
 
-broken-whole : (k : ℕ) → broken k ≡ whole → ⊥
+pub broken-whole : (k : ℕ) → broken k ≡ whole → ⊥
 broken-whole k e = let z : _≡_ {A = ℕ} 0 1 = cc in omega arith
 
 module _ {P W : List ℕ} {to : ℕ → ℕ} (spaced : Spaced P W to) where
