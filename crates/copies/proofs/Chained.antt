@@ -41,7 +41,7 @@ module _ {W : List ℕ} {k : ℕ} (on : OnChain W k) where
   links-go some = let up = next-follows some in ap (λ c. c .links) (chain-goes W k (up .0) (up .1))
 
   -- it stands on the same chain, and its words can be read
-  pub next-on : (nextOf W k ≡ 0 → ⊥) → OnChain W (nextOf W k)
+  next-on : (nextOf W k ≡ 0 → ⊥) → OnChain W (nextOf W k)
   next-on some =
       let up = next-follows some in
       record { few = on .few; inside = up .1; ends = sym (ap (λ c. c .end) (chain-goes W k (up .0) (up .1))) ∙ on .ends }
@@ -121,12 +121,12 @@ module _ {W formula : List ℕ} {count : ℕ} where
       pub turned-short : next ≡ 0 → Going W formula count z₀ (record { done = z .done; passed = z .passed; last = z .last; same = false }) (i + 1)
       turned-short none = turned _ same below (going .on) (short-leads W z (going .on) same (recordAt formula i) _ (sym is ∙ none) refl refl) (refl, refl)
 
-      pub turned-on : (next ≡ 0 → ⊥) → (j : ℕ) → j ≡ i → (again : Bool) → again ≡ sameRecord (recordAt formula j) (recordAt W next)
+      pub turned-on : (next ≡ 0 → ⊥) → (again : Bool) → again ≡ sameRecord (recordAt formula i) (recordAt W next)
           → Going W formula count z₀ (record { done = z .done; passed = z .passed; last = next; same = again }) (i + 1)
-      turned-on some j e again e′ =
+      turned-on some again e =
           let more : nextOf W (z .last) ≡ 0 → ⊥ = λ none. some (is ∙ none) in
           turned _ same below (rw is (next-on (going .on) more))
-          (next-leads W z (going .on) same (recordAt formula i) _ more is (rw (e′, e, is))) (refl, refl)
+          (next-leads W z (going .on) same (recordAt formula i) _ more is (rw (e, is))) (refl, refl)
 
     -- after the last turn: all are compared, or a difference is found
     pub going-ends : count ≤ i → Ended W formula count z₀ z

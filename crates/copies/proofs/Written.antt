@@ -85,7 +85,7 @@ falling-few : (pair : ℕ → ℕ × ℕ) (t : ℕ → Bool) (a n : ℕ) → len
 falling-few pair t a n = rw length-map (omega (arith, kept-at-most t (falling (λ h. h) a n), length-falling (λ h. h) a n))
 
 -- the records of a place, of y(m) and of x(i)
-pub place-few : {n : ℕ} {L : Plan} {work inRows inColumns : List ℕ} → Ready n L work inRows inColumns → (divisor i j : ℕ) → Inside n i j
+place-few : {n : ℕ} {L : Plan} {work inRows inColumns : List ℕ} → Ready n L work inRows inColumns → (divisor i j : ℕ) → Inside n i j
     → length (placeAt n L work divisor i j) ≤ 603
 unfolding placeAt formulaAt inner
 place-few {n} {L} {work} ready divisor i j inside = step (keptAt n work i j)
@@ -103,13 +103,13 @@ place-few {n} {L} {work} ready divisor i j inside = step (keptAt n work i j)
     step false = omega arith
 
 module _ {n : ℕ} {work : List ℕ} (covers : Covers n work) where
-  pub forward-few : (m : ℕ) → Inside n m m → length (yAt n work m) ≤ 603
+  forward-few : (m : ℕ) → Inside n m m → length (yAt n work m) ≤ 603
   unfolding yAt forward
   forward-few m inside =
       let products = rising-few (λ h. (numberAt n work m h, h)) (keptAt n work m) 1 (m - 1) in
       omega (arith, records-few (forward n [] (numberAt n work) (keptAt n work) m), products, covers .high, inside)
 
-  pub backward-few : (i : ℕ) → Inside n i i → length (xAt n work i) ≤ 603
+  backward-few : (i : ℕ) → Inside n i i → length (xAt n work i) ≤ 603
   unfolding xAt backward
   backward-few i inside =
       let products = falling-few (λ h. (numberAt n work i h, h)) (keptAt n work i) n (n - i) in

@@ -280,15 +280,16 @@ fn compare_formula(words: &[u32], formula: &[u32], count: u32, z: Compared) -> C
     ensures { λ r. ⌜ (r .done ≡ z .done) × (r .passed ≡ z .passed) ⌝ }
     ensures { λ r. ⌜ (r .same ≡ true → z .same ≡ true) ⌝ }
 {
+    let end = wide(count);
     let mut z = z;
     let mut i = 0;
-    while z.same && i < count {
+    while z.same && i < end {
         let next = wide(words[4 * z.last + 3]);
         if next == 0 {
             z.same = false;
         } else {
             z.last = next;
-            z.same = is_same(words, next, formula, wide(i));
+            z.same = is_same(words, next, formula, i);
         }
         i += 1;
     }
