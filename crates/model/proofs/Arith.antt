@@ -63,6 +63,14 @@ clean-good (inf s) t h = absurd (false≢true t)
 clean-good (fin s zero e) t h = nought
 clean-good (fin s (suc m) e) t h = nonzero h
 
+-- a zero of either sign is read as +0
+pub zero-clean : (x : Float) → isZero x ≡ true → clean x ≡ plusZero
+unfolding clean isZero
+zero-clean nan t = absurd (false≢true t)
+zero-clean (inf s) t = absurd (false≢true t)
+zero-clean (fin s zero e) t = refl
+zero-clean (fin s (suc m) e) t = absurd (false≢true t)
+
 -- ---- every number answered is good, whatever the operands
 
 settled-good : (x : Float) → T (fits binary64 x) → GoodAnswer (settled x)

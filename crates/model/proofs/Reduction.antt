@@ -73,6 +73,13 @@ onward-solved P (number v) tb k rest t g e go = go v refl e
 onward-solved P overflow tb k rest t g e go = let z : _≡_ {A = ℕ} 0 1 = cc in absurd (omega arith)
 onward-solved P zeroDivisor tb k rest t g e go = let z : _≡_ {A = ℕ} 0 1 = cc in absurd (omega arith)
 
+-- one that ends refused goes on after a number too, or is refused here
+onward-refused : (P : Type 0) (a : Answer) (tb tb′ : Table) (k k′ r : ℕ) (rest : Float → Ended) → onward a tb k rest ≡ refused r tb′ k′
+    → ((v : Float) → a ≡ number v → rest v ≡ refused r tb′ k′ → P) → (tb ≡ tb′ → k ≡ k′ → P) → P
+onward-refused P (number v) tb tb′ k k′ r rest e go here = go v refl e
+onward-refused P overflow tb tb′ k k′ r rest e go here = here (cc) (cc)
+onward-refused P zeroDivisor tb tb′ k k′ r rest e go here = here (cc) (cc)
+
 onward-same : (N : ℕ) (L : Plan) (a : Answer) (tb : Table) (k k′ : ℕ) (rest rest′ : Float → Ended) → ((r : ℕ) → refused r tb k′ ≡ squeezed N L (refused r tb k))
     → ((v : Float) → a ≡ number v → rest′ v ≡ squeezed N L (rest v)) → onward a tb k′ rest′ ≡ squeezed N L (onward a tb k rest)
 onward-same N L (number v) tb k k′ rest rest′ ends go = go v refl
@@ -84,6 +91,23 @@ worked-solved : {f : Formula} {tb : Table} {k : ℕ} → Targets f tb k
     → worked A B limit g t (f ∷ fs) ≡ solved t′ g′
     → ((v : Float) → value A B limit t f ≡ number v → worked A B limit (g + vanishedBy t f) (closed t tb k v) fs ≡ solved t′ g′ → P) → P
 worked-solved to P A B limit g g′ t t′ fs e go = onward-solved P _ _ _ _ t′ g′ (sym (worked-cons to A B limit g t fs) ∙ e) go
+
+worked-refused : {f : Formula} {tb : Table} {k : ℕ} → Targets f tb k
+    → (P : Type 0) (A B : List Float) (limit : Float) (g r : ℕ) (t : Tables) (tb′ : Table) (k′ : ℕ) (fs : List Formula)
+    → worked A B limit g t (f ∷ fs) ≡ refused r tb′ k′
+    → ((v : Float) → value A B limit t f ≡ number v → worked A B limit (g + vanishedBy t f) (closed t tb k v) fs ≡ refused r tb′ k′ → P)
+    → (tb ≡ tb′ → k ≡ k′ → P) → P
+worked-refused to P A B limit g r t tb′ k′ fs e go here = onward-refused P _ _ tb′ _ k′ r _ (sym (worked-cons to A B limit g t fs) ∙ e) go here
+
+-- label k is that of a held place
+pub record HeldLabel (N : ℕ) (L : Plan) (k : ℕ) : Type 0 where
+  pub inside : Inside N (place N k .0) (place N k .1)
+  pub holds : held N L (place N k .0) (place N k .1) ≡ true
+
+held-label : {N : ℕ} {L : Plan} (i j k : ℕ) → Inside N i j → held N L i j ≡ true → label N i j ≡ k → HeldLabel N L k
+held-label {N} {L} i j k inside h e =
+    let there : place N k ≡ (i, j) = ap (place N) (sym e) ∙ place-of-label N i j inside in
+    record { inside = rw there inside; holds = rw there h }
 
 module _ {N : ℕ} {L : Plan} {A B : List Float} {limit : Float} (given : Given N L A B limit) where
   reads : Reads A B limit
@@ -162,14 +186,38 @@ module _ {N : ℕ} {L : Plan} {A B : List Float} {limit : Float} (given : Given 
         (λ r. refl)
         (λ v q. rw (← shrunk-x N L t _ v) (reduction _ rest (sound-x s (number-good reads s _ q) _)))
 
+    -- dense Crout refuses in C at held places alone
+    refused-held : {n y x r k : ℕ} {ds rs : List Formula} {t : Tables} (g : ℕ) → Beside N L n y x ds rs → Sound N L n t
+        → worked A B limit g t ds ≡ refused r C k → HeldLabel N L k
+    refused-held {t = t} g done s e = let z : _≡_ {A = ℕ} 0 1 = cc (worked-nil A B limit g t) in absurd (omega arith)
+    refused-held {r = r} {k} {t = t} g (on-both i j inside turn h rest) s e =
+        worked-refused (place-targets N L (label N) _ i j) _ A B limit g r t C k _ e
+        (λ v q f. refused-held _ rest (place-sound i j inside turn s v q) f) (λ p q. held-label i j k inside h q)
+    refused-held {t = t} g (left-out {ds = ds} i j inside turn h rest) s e =
+        let q = unheld-nought s i j inside turn h in
+        let on = ap (λ a. onward a C (label N i j) (λ v. worked A B limit (g + vanishedBy t (denseOf N L i j)) (closed t C (label N i j) v) ds)) q in
+        refused-held _ rest (place-sound i j inside turn s plusZero q) (sym on ∙ sym (worked-cons (place-targets N L (label N) _ i j) A B limit g t ds) ∙ e)
+    refused-held {r = r} {k} {t = t} g (into-y h p rest) s e =
+        worked-refused (forward-targets N L (label N) _ _) _ A B limit g r t C k _ e
+        (λ v q f. refused-held _ rest (sound-y s (number-good reads s _ q) _) f) (λ p q. let z : _≡_ {A = ℕ} 0 1 = cc in absurd (omega arith))
+    refused-held {r = r} {k} {t = t} g (into-x i l p rest) s e =
+        worked-refused (backward-targets N L (label N) _ i) _ A B limit g r t C k _ e
+        (λ v q f. refused-held _ rest (sound-x s (number-good reads s _ q) _) f) (λ p q. let z : _≡_ {A = ℕ} 0 1 = cc in absurd (omega arith))
+
 -- The headlines: the reduced formulas end as dense Crout does;
 pub reduced-is-dense : {N : ℕ} {L : Plan} {A B : List Float} {limit : Float} → Accepted N L A B limit
     → worked A B limit 0 (nothing N) (reducedFormulas N L) ≡ squeezed N L (dense N L A B limit)
 unfolding dense shrunk picked
 reduced-is-dense {N} {L} accepted = reduction (accepted .given) (accepted .pivots) 0 (beside N L) (sound-nothing N L)
 
+-- it refuses in C at held places alone;
+pub refusal-held : {N : ℕ} {L : Plan} {A B : List Float} {limit : Float} → Accepted N L A B limit → (r k : ℕ) → dense N L A B limit ≡ refused r C k
+    → HeldLabel N L k
+unfolding dense
+refusal-held {N} {L} accepted r k e = refused-held (accepted .given) (accepted .pivots) 0 (beside N L) (sound-nothing N L) e
+
 module _ {N : ℕ} {L : Plan} {A B : List Float} {limit : Float} (given : Given N L A B limit) where
-  solved-sound : (t : Tables) (g : ℕ) → dense N L A B limit ≡ solved t g → Sound N L (N * N) t
+  pub solved-sound : (t : Tables) (g : ℕ) → dense N L A B limit ≡ solved t g → Sound N L (N * N) t
   unfolding dense
   solved-sound t g e = sound-end given 0 (beside N L) (sound-nothing N L) e
 

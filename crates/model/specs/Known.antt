@@ -1,4 +1,4 @@
--- Document 01's "Known plans and values" and its listing, and values for document 02's A.1, A.5, A.6, A.7, A.10 and A.11, as one theorem
+-- Document 01's "Known plans and values" and its listing, and values for document 02's A.1, A.5, A.6, A.7, A.9, A.10 and A.11, as one theorem
 -- about the definitions.
 use Prim.Native.Nat.{ℕ, suc, _*_}
 use mathlib.Core.Bool.{true, false}
@@ -25,7 +25,9 @@ use Rattle.model.specs.Check.{fine, chainAfter, chain, kindOf, belongs, 
 use Rattle.model.specs.Run.{Outcome, solution, stopped, refusedBy, unsettledAt, step, follow, followed, notFinite, checkValues, sweptOver, ran}
 use Rattle.model.specs.Run.{solves, stops, reply, leaves}
 use Rattle.model.specs.Many.{parts, Outcomes, noneRun, ranMany, readBy, read, each, replies, sharedC, leavesMany}
+use Rattle.model.specs.Agreement.{Seen, seen}
 use Rattle.model.specs.Compare.{sameRecord, compared, compares, workCompared}
+use Rattle.model.specs.Marked.{Placed, solvedAs, refusedAt, valueAt, placed, productsMade}
 
 abbrev int : ℕ → Float
 int n = ofInt binary64 (pos n)
@@ -211,6 +213,20 @@ spaced₁ =
     ∷ 8 ∷ 0 ∷ 0 ∷ 0
     ∷ []
 
+-- what is seen of the run of the plan 1 4 of order 2, and of all places, on right side 2 12
+abbrev apart : List Float → Seen
+apart A = seen (ran (compiled 2 diagonal₂) A (ints (2 ∷ 12 ∷ [])) plusZero 2 2 2)
+
+abbrev walled : List Float → Seen
+walled A = seen (ran₂ A (ints (2 ∷ 12 ∷ [])) plusZero)
+
+-- the coefficients of W1 with two places marked, and how both plans end on them
+abbrev marked₁ : List Float
+marked₁ = int 2 ∷ plusZero ∷ neg plusZero ∷ int 4 ∷ []
+
+abbrev placed₁ : Placed
+placed₁ = solvedAs (int 2 ∷ plusZero ∷ plusZero ∷ int 4 ∷ []) (ints (1 ∷ 3 ∷ [])) (ints (1 ∷ 3 ∷ [])) 0
+
 pub record Known : Type 0 where
   p1 : (label 6 5 2 ≡ 15) × (label 6 1 6 ≡ 11) × (label 6 6 6 ≡ 36) × (place 6 15 ≡ (5, 2)) × (place 6 11 ≡ (1, 6)) × (place 6 36 ≡ (6, 6))
   p2 : compiles 2 (1 ∷ 2 ∷ 3 ∷ []) 4 92 ≡ written 4 3 23
@@ -312,6 +328,14 @@ pub record Known : Type 0 where
       × (compares 1 one 1 [] ≡ Check.refusal 7 0)
       × (compares 1 one 1 (changed 23 0 (compiled 1 one)) ≡ Check.refusal 13 0)
   e6 : (workCompared 2 diagonal₂ (replicate 5 9) ≡ 1 ∷ 0 ∷ 0 ∷ 2 ∷ 9 ∷ []) × (workCompared 2 (2 ∷ 3 ∷ []) (replicate 5 9) ≡ 0 ∷ 0 ∷ 0 ∷ 0 ∷ 9 ∷ [])
+  -- A.9: two plans that end alike, in a solution, with the products of each, and in a refusal; and a plan that misses a pivot, with that pivot marked
+  w1 : (placed 2 diagonal₂ (apart (ints (2 ∷ 4 ∷ []))) ≡ placed₁)
+      × (placed 2 full₂ (walled marked₁) ≡ placed₁)
+      × (productsMade (apart (ints (2 ∷ 4 ∷ []))) ≡ 0)
+      × (productsMade (walled marked₁) ≡ 3)
+  w2 : (placed 2 diagonal₂ (apart (ints (2 ∷ 0 ∷ []))) ≡ refusedAt 17 (2, 2))
+      × (placed 2 full₂ (walled (int 2 ∷ neg plusZero ∷ plusZero ∷ int 0 ∷ [])) ≡ refusedAt 17 (2, 2))
+  w3 : (missing 2 (2 ∷ 3 ∷ []) ≡ 1) × (placed 2 full₂ (walled (plusZero ∷ int 4 ∷ int 1 ∷ neg plusZero ∷ [])) ≡ refusedAt 17 (1, 1))
   -- the listing for input `1 1`, a record a line
   listing : compiled 1 one
       ≡ 1 ∷ 1 ∷ 1 ∷ 1
@@ -336,7 +360,7 @@ unfolding rising falling joined kept total some count label column row places pl
     judged orderly admits compilesBy slotNumbers workLeft workAfterBy
     chainAfter chain kindOf belongs formed inOrder inTurn inRow allowed complete checkLinks checkFrom check
     step follow followed notFinite checkValues sweptOver ran reply leaves
-    parts ranMany readBy read replies sharedC leavesMany sameRecord compared compares workCompared
+    parts ranMany readBy read replies sharedC leavesMany sameRecord compared compares workCompared seen valueAt placed productsMade
     mul sub div neg lt eq le ofInt
 known = record {
   p1 = (refl, refl, refl, refl, refl, refl);
@@ -384,5 +408,8 @@ known = record {
   e4 = (refl, refl, refl, refl);
   e5 = (refl, refl, refl);
   e6 = (refl, refl);
+  w1 = (refl, refl, refl, refl);
+  w2 = (refl, refl);
+  w3 = (refl, refl);
   listing = refl;
 }
