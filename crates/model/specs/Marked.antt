@@ -30,9 +30,11 @@ pub data Placed : Type 0 where
   -- any other refusal; no accepted plan's run ends so
   other : ℕ → Placed
 
+-- what stands in C for a place: the entry of its slot, +0 where it has none
 unfoldable pub valueAt : ℕ → Plan → Tables → Place → Float
 valueAt N L t p = elim (held N L (p .0) (p .1)) [ true ↦ entry t C (slot N L (p .0) (p .1)) | false ↦ plusZero ]
 
+-- what is seen of a run, by places
 unfoldable pub placed : ℕ → Plan → Seen → Placed
 placed N L (whole t products quotients vanished sweeps) = solvedAs (map (valueAt N L t) (places N)) (t .y) (t .x) vanished
 placed N L (ended r C k) = refusedAt r (getD (heldPlaces N L) (k - 1) (0, 0))
