@@ -16,7 +16,7 @@ use Rattle.model.specs.Formula.{C, Y, X, Tables, Formula, entry, closed,
 use Rattle.model.specs.Formula.{Ended, solved, refused, worked}
 use Rattle.model.specs.Crout.{inner, lower, forward, upper, backward, batch, formulas, denseFormulas, nothing, dense}
 use Rattle.model.specs.Program.{compiled}
-use Rattle.model.specs.Run.{solution, ran}
+use Rattle.model.specs.Run.{ran}
 use Rattle.model.specs.Agreement.{Accepted, whole, seen, packed, compressed}
 use Rattle.model.specs.Marked.{Marked, Placed, solvedAs, refusedAt, refusedIn, valueAt, placed, productsMade, MarkedAlike, MarkedNever}
 use Rattle.model.proofs.Lists.{map-same}
