@@ -25,12 +25,17 @@ demo: build/sheet build/site build/weather
 	build/site
 	build/weather
 
-pictures: docs/pictures/document002.svg docs/pictures/grid.svg
+pictures: docs/pictures/document002.svg docs/pictures/grid.svg docs/pictures/path.svg
 
 docs/pictures/%.svg: examples/%.txt build/spy
 	mkdir -p docs/pictures
 	build/spy $< >build/$*.svg
 	mv build/$*.svg $@
+
+docs/pictures/path.svg: examples/grid.txt build/spy
+	mkdir -p docs/pictures
+	build/spy $< 13 12 >build/path.svg
+	mv build/path.svg $@
 
 test:
 	.ci/run

@@ -11,7 +11,7 @@ struct plan {
     size_t count;
     uint32_t *labels; /* rising */
     size_t *from;     /* the coefficient of labels[k] is the text's from[k], counted from 0 */
-    uint32_t *slots;  /* the compiler's work slice: the slot of label K is slots[K - 1], 0 if the place isn't held */
+    uint32_t *slots;  /* the library's work slice: the slot of label K is slots[K - 1], 0 if the place isn't held */
     uint32_t *words;  /* the program, once it is compiled */
     uint64_t held;
     uint64_t products;

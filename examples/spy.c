@@ -1,12 +1,17 @@
 /* Draws a plan as SVG on standard output:
 
-       spy FILE.txt > PICTURE.svg
+       spy FILE.txt [ROW COLUMN] > PICTURE.svg
 
    The text is described in plan_text.h; its values are left aside. Every held place is a square, in one colour if it is in the
    plan and in another if it is fill; pointing at it shows slot, place and label.
 
-   A plan with a missing pivot is refused, and the library then gives no slots. Its fill and its missing pivots are worked out here,
-   for the picture alone, and the picture says so. */
+   With ROW and COLUMN the picture also shows why that place is held, by the library's path i = v0, v1, .., vk = j from the row to
+   the column. A closed line starts at (i, j), goes along row i to (i, v1), along column v1 to (v1, v1), along row v1 to (v1, v2),
+   and so on up to (v(k-1), j), and along column j back. (i, j) has a bold outline, and each (v(t), v(t+1)), a place of the plan,
+   has a ring.
+
+   A plan with a missing pivot is refused by the compiler, but the call for paths gives its slots, so it is drawn as well, with its
+   missing pivots marked. */
 #include "basics.h"
 #include "crout.h"
 #include "plan.h"
@@ -19,13 +24,25 @@
 #define PLAN_COLOUR "#2f6299"
 #define FILL_COLOUR "#f0b545"
 #define MISSING_COLOUR "#c4161c"
+#define PATH_COLOUR "#c3008c"
+
+enum {
+    ENTRIES_TO_A_LINE = 16, /* of a path, in the legend */
+    LINE_HEIGHT = 19        /* pixels from one line of the legend to the next */
+};
 
 enum kind { NOT_HELD, IN_PLAN, FILL };
+
+static const struct {
+    const char *square, *slot;
+} colours[] = {[IN_PLAN] = {PLAN_COLOUR, "#fff"}, [FILL] = {FILL_COLOUR, "#222"}};
 
 struct picture {
     const struct plan *plan;
     uint32_t missing;    /* the library's smallest missing pivot, 0 if the plan is accepted */
     unsigned char *kind; /* by label, from 0 */
+    uint32_t *path;      /* why the place that was asked for is held, from its row to its column */
+    size_t path_len;     /* 0 if none was asked for */
     unsigned cell, left, top, side, width, height; /* pixels */
 };
 
@@ -37,19 +54,6 @@ static enum kind kind_at(const struct picture *picture, uint32_t row, uint32_t c
     return (enum kind)picture->kind[label_at(picture, row, column) - 1];
 }
 
-/* The rule of document 01: (i, j) is held if some h below both has (i, h) and (h, j) held. h rises, so what it reads is final. */
-static void fill_by_rule(struct picture *picture) {
-    const uint32_t order = picture->plan->order;
-    for (uint32_t h = 1; h < order; h++)
-        for (uint32_t i = h + 1; i <= order; i++) {
-            if (kind_at(picture, i, h) == NOT_HELD)
-                continue;
-            for (uint32_t j = h + 1; j <= order; j++)
-                if (kind_at(picture, h, j) != NOT_HELD && kind_at(picture, i, j) == NOT_HELD)
-                    picture->kind[label_at(picture, i, j) - 1] = FILL;
-        }
-}
-
 static void find_kinds(struct picture *picture) {
     const struct plan *plan = picture->plan;
     const size_t places = (size_t)plan->order * plan->order;
@@ -58,23 +62,32 @@ static void find_kinds(struct picture *picture) {
         picture->kind[k] = plan->slots[k] == 0 ? NOT_HELD : FILL;
     for (size_t k = 0; k < plan->count; k++)
         picture->kind[plan->labels[k] - 1] = IN_PLAN;
-    if (picture->missing != 0)
-        fill_by_rule(picture);
 }
 
 static unsigned between(unsigned low, unsigned number, unsigned high) {
     return number < low ? low : number > high ? high : number;
 }
 
+static int has_path(const struct picture *picture) {
+    return picture->path_len != 0;
+}
+
+/* The lines of text below the legend's samples. */
+static unsigned text_lines(const struct picture *picture) {
+    const unsigned entry_lines = ((unsigned)picture->path_len + ENTRIES_TO_A_LINE - 1) / ENTRIES_TO_A_LINE;
+    return (picture->missing != 0) + (has_path(picture) ? 1 + entry_lines : 0);
+}
+
 /* Small plans get large squares, and the largest still two pixels. */
 static void measure(struct picture *picture) {
+    const unsigned narrowest = has_path(picture) ? 530 : 480; /* the legend has to fit in */
     const unsigned order = picture->plan->order;
     picture->cell = between(2, 640 / order, 44);
     picture->side = order * picture->cell;
     picture->left = 40;
     picture->top = 64;
-    picture->width = between(480, picture->left + picture->side + 24, 2000);
-    picture->height = picture->top + picture->side + (picture->missing == 0 ? 48 : 86);
+    picture->width = between(narrowest, picture->left + picture->side + 24, 2000);
+    picture->height = picture->top + picture->side + 48 + text_lines(picture) * LINE_HEIGHT;
 }
 
 /* The upper left corner of row or column number i, from 1. */
@@ -134,19 +147,28 @@ static void draw_frame(const struct picture *picture) {
            picture->side, picture->side);
 }
 
+/* What a square leaves free of its cell, above it and to its left. */
+static unsigned gap_of(const struct picture *picture) {
+    return picture->cell >= 8;
+}
+
 static void draw_square(const struct picture *picture, uint32_t row, uint32_t column) {
-    const unsigned gap = picture->cell >= 8;
-    const uint32_t label = label_at(picture, row, column), slot = picture->plan->slots[label - 1];
-    printf("<rect x=\"%u\" y=\"%u\" width=\"%u\" height=\"%u\"><title>", x_of(picture, column) + gap, y_of(picture, row) + gap,
+    const unsigned gap = gap_of(picture);
+    const uint32_t label = label_at(picture, row, column);
+    printf("<rect x=\"%u\" y=\"%u\" width=\"%u\" height=\"%u\">", x_of(picture, column) + gap, y_of(picture, row) + gap,
            picture->cell - gap, picture->cell - gap);
-    if (slot != 0)
-        printf("slot %" PRIu32 ", ", slot);
-    printf("place (%" PRIu32 ", %" PRIu32 "), label %" PRIu32 "</title></rect>\n", row, column, label);
+    printf("<title>slot %" PRIu32 ", place (%" PRIu32 ", %" PRIu32 "), label %" PRIu32 "</title></rect>\n",
+           picture->plan->slots[label - 1], row, column, label);
+}
+
+/* How large the slots are written, in pixels. Where a path is drawn they leave space for its line between them. */
+static unsigned slot_size(const struct picture *picture) {
+    return has_path(picture) ? between(9, picture->cell / 3, 13) : 13;
 }
 
 static void draw_slot(const struct picture *picture, uint32_t row, uint32_t column) {
-    const unsigned middle = picture->cell / 2;
-    printf("<text x=\"%u\" y=\"%u\">%" PRIu32 "</text>\n", x_of(picture, column) + middle, y_of(picture, row) + middle + 5,
+    const unsigned middle = picture->cell / 2, base = middle + slot_size(picture) * 2 / 5;
+    printf("<text x=\"%u\" y=\"%u\">%" PRIu32 "</text>\n", x_of(picture, column) + middle, y_of(picture, row) + base,
            picture->plan->slots[label_at(picture, row, column) - 1]);
 }
 
@@ -159,21 +181,31 @@ static void draw_each(const struct picture *picture, enum kind kind,
                 draw_one(picture, i, j);
 }
 
-/* Whether the squares are large enough for the slots, and the slots known. */
+/* Whether the squares are large enough for the slots. */
 static int has_slots(const struct picture *picture) {
-    return picture->cell >= 24 && picture->missing == 0;
+    return picture->cell >= 24;
 }
 
-static void draw_kind(const struct picture *picture, enum kind kind, const char *colour, const char *slot_colour) {
-    printf("<g fill=\"%s\">\n", colour);
-    draw_each(picture, kind, draw_square);
-    printf("</g>\n");
+static void draw_slots(const struct picture *picture, enum kind kind) {
     if (!has_slots(picture))
         return;
     /* the numbers let the pointer through to the squares, which have the tool tips */
-    printf("<g fill=\"%s\" text-anchor=\"middle\" pointer-events=\"none\">\n", slot_colour);
+    printf("<g fill=\"%s\" text-anchor=\"middle\" pointer-events=\"none\"", colours[kind].slot);
+    /* and an edge in the colour of their squares keeps the line of a path off the digits */
+    if (has_path(picture))
+        printf(" font-size=\"%u\" stroke=\"%s\" stroke-width=\"%u\" stroke-linejoin=\"round\" paint-order=\"stroke\"",
+               slot_size(picture), colours[kind].square, slot_size(picture) * 2 / 5);
+    printf(">\n");
     draw_each(picture, kind, draw_slot);
     printf("</g>\n");
+}
+
+static void draw_kind(const struct picture *picture, enum kind kind) {
+    printf("<g fill=\"%s\">\n", colours[kind].square);
+    draw_each(picture, kind, draw_square);
+    printf("</g>\n");
+    if (!has_path(picture))
+        draw_slots(picture, kind);
 }
 
 /* A ring with a cross in it. */
@@ -193,71 +225,180 @@ static void draw_missing(const struct picture *picture) {
         }
 }
 
+/* The middle of the squares in row or column number i, from 1, in pixels from the table's corner. */
+static double middle_of(const struct picture *picture, uint32_t i) {
+    return (i - 1) * picture->cell + (picture->cell + gap_of(picture)) / 2.0;
+}
+
+/* Along a row to the next entry's column, and along that to the diagonal; the last column leads back to the start. */
+static void draw_line(const struct picture *picture) {
+    const uint32_t *path = picture->path;
+    const size_t last = picture->path_len - 1;
+    printf("<path d=\"M%.1f %.1f", middle_of(picture, path[last]), middle_of(picture, path[0]));
+    for (size_t t = 1; t < last; t++)
+        printf("H%.1fV%.1f", middle_of(picture, path[t]), middle_of(picture, path[t]));
+    printf("H%.1fZ\"/>\n", middle_of(picture, path[last]));
+}
+
+static void draw_ring(const struct picture *picture, uint32_t row, uint32_t column) {
+    printf("<circle cx=\"%.1f\" cy=\"%.1f\" r=\"%.1f\"/>\n", middle_of(picture, column), middle_of(picture, row),
+           2 + 0.34 * picture->cell);
+}
+
+static void draw_outline(const struct picture *picture, uint32_t row, uint32_t column, double width) {
+    const double half = 3.5 + 0.42 * picture->cell;
+    printf("<rect x=\"%.1f\" y=\"%.1f\" width=\"%.1f\" height=\"%.1f\" stroke-width=\"%.1f\"/>\n",
+           middle_of(picture, column) - half, middle_of(picture, row) - half, 2 * half, 2 * half, width);
+}
+
+/* The path in one colour, its lines wider by edge. It grows with the squares, and can still be seen where they are smallest. */
+static void draw_strokes(const struct picture *picture, const char *colour, double edge) {
+    const uint32_t *path = picture->path;
+    const size_t last = picture->path_len - 1;
+    const double width = 1.4 + 0.05 * picture->cell;
+    printf("<g stroke=\"%s\" stroke-width=\"%.1f\">\n", colour, width + edge);
+    if (last > 1)
+        draw_line(picture);
+    for (size_t t = 0; t < last; t++)
+        draw_ring(picture, path[t], path[t + 1]);
+    draw_outline(picture, path[0], path[last], 1.5 * width + edge);
+    printf("</g>\n");
+}
+
+/* The path has a white edge, which sets it off from the squares, and the slots stand on it. */
+static void draw_path(const struct picture *picture) {
+    printf("<g fill=\"none\" stroke-linejoin=\"round\" pointer-events=\"none\" transform=\"translate(%u %u)\">\n", picture->left,
+           picture->top);
+    draw_strokes(picture, "#fff", 2);
+    draw_strokes(picture, PATH_COLOUR, 0);
+    printf("</g>\n");
+    draw_slots(picture, IN_PLAN);
+    draw_slots(picture, FILL);
+}
+
 static void draw_sample(unsigned x, unsigned y, const char *colour, const char *meaning) {
     printf("<rect x=\"%u\" y=\"%u\" width=\"14\" height=\"14\" fill=\"%s\"/><text x=\"%u\" y=\"%u\">%s</text>\n", x, y, colour, x + 21,
            y + 12, meaning);
 }
 
 static void draw_refusal(const struct picture *picture, unsigned x, unsigned y) {
-    draw_mark(x + 206, y + 7, 7);
-    printf("</g><text x=\"%u\" y=\"%u\">missing pivot</text>\n", x + 221, y + 12);
-    printf("<text x=\"%u\" y=\"%u\">Refused by 5: pivot %" PRIu32 " is missing, the first of those marked.</text>\n", x, y + 38,
+    printf("<text x=\"%u\" y=\"%u\">Refused by 5: pivot %" PRIu32 " is missing, the first of those marked.</text>\n", x, y,
            picture->missing);
-    printf("<text x=\"%u\" y=\"%u\">Fill and marks are worked out for this picture, by the fill rule.</text>\n", x, y + 57);
+}
+
+static void draw_entries(const struct picture *picture, unsigned x, unsigned y) {
+    const uint32_t *path = picture->path;
+    printf("<g fill=\"" PATH_COLOUR "\">\n<text x=\"%u\" y=\"%u\">", x, y);
+    printf("Why (%" PRIu32 ", %" PRIu32 ") is held: a path of %zu entries through places of the plan", path[0],
+           path[picture->path_len - 1], picture->path_len);
+    for (unsigned t = 0; t < picture->path_len; t++) {
+        if (t % ENTRIES_TO_A_LINE == 0)
+            printf("</text>\n<text x=\"%u\" y=\"%u\">", x, y + (1 + t / ENTRIES_TO_A_LINE) * LINE_HEIGHT);
+        else
+            printf(" ");
+        printf("%" PRIu32, path[t]);
+    }
+    printf("</text>\n</g>\n");
 }
 
 static void draw_legend(const struct picture *picture) {
     const unsigned x = picture->left, y = picture->top + picture->side + 18;
+    unsigned beside = x + 200, below = y + 38; /* where the next sample and the next line of text are to stand */
     draw_sample(x, y, PLAN_COLOUR, "in the plan");
     draw_sample(x + 120, y, FILL_COLOUR, "fill");
-    if (has_slots(picture))
-        printf("<text x=\"%u\" y=\"%u\">numbers: slots</text>\n", x + 200, y + 12);
-    if (picture->missing != 0)
-        draw_refusal(picture, x, y);
+    if (has_slots(picture)) {
+        printf("<text x=\"%u\" y=\"%u\">numbers: slots</text>\n", beside, y + 12);
+        beside += 115;
+    }
+    if (picture->missing != 0) {
+        draw_mark(beside + 6, y + 7, 7);
+        printf("</g><text x=\"%u\" y=\"%u\">missing pivot</text>\n", beside + 21, y + 12);
+        draw_refusal(picture, x, below);
+        below += LINE_HEIGHT;
+    }
+    if (has_path(picture))
+        draw_entries(picture, x, below);
 }
 
 static void draw(const struct picture *picture) {
     draw_heading(picture);
     draw_numbers(picture);
     draw_frame(picture);
-    draw_kind(picture, IN_PLAN, PLAN_COLOUR, "#fff");
-    draw_kind(picture, FILL, FILL_COLOUR, "#222");
+    draw_kind(picture, IN_PLAN);
+    draw_kind(picture, FILL);
     draw_missing(picture);
+    if (has_path(picture))
+        draw_path(picture);
     draw_legend(picture);
     printf("</svg>\n");
 }
 
-/* Draws the plan, if it is one that can be drawn: accepted, or refused for a missing pivot. */
-static int drawn(struct plan *plan) {
+/* Asks for the slots of a plan that misses a pivot: place (0, 0) is refused, but the slots are written all the same. */
+static void find_slots(struct plan *plan) {
+    const size_t places = (size_t)plan->order * plan->order;
+    uint32_t no_list;
+    uint64_t out[3];
+    crout_fill_path(plan->order, plan->labels, plan->count, 0, 0, plan->slots, places, &no_list, 0, out);
+}
+
+/* Asks why a place, row and column, is held. Returns 0 or the refusal. */
+static uint64_t find_path(struct picture *picture, struct plan *plan, const uint32_t place[2]) {
+    const size_t places = (size_t)plan->order * plan->order, longest = (size_t)plan->order + 1;
+    uint64_t out[3], answer;
+    picture->path = allocated(longest, sizeof *picture->path);
+    answer = crout_fill_path(plan->order, plan->labels, plan->count, place[0], place[1], plan->slots, places,
+                             picture->path, longest, out);
+    picture->path_len = (size_t)out[0];
+    return answer;
+}
+
+/* Draws the plan, if it is one that can be drawn: accepted, or refused for a missing pivot. The path of a place, row and column, is
+   drawn over it, if the place isn't NULL; it has to be held. */
+static int drawn(struct plan *plan, const uint32_t *place) {
     struct picture picture = {0};
-    const uint64_t answer = plan_measure(plan);
-    const uint32_t number = crout_refusal(answer);
+    uint64_t answer = plan_measure(plan);
     picture.plan = plan;
-    if (number == CROUT_PIVOT_MISSING)
+    if (crout_refusal(answer) == CROUT_PIVOT_MISSING) {
         picture.missing = crout_detail(answer);
-    else if (number != 0) {
-        say_refusal(stderr, answer);
-        return 0;
+        find_slots(plan);
+        answer = 0;
     }
-    find_kinds(&picture);
-    measure(&picture);
-    draw(&picture);
+    if (answer == 0 && place != NULL)
+        answer = find_path(&picture, plan, place);
+    if (answer == 0) {
+        find_kinds(&picture);
+        measure(&picture);
+        draw(&picture);
+    } else
+        say_refusal(stderr, answer);
     free(picture.kind);
-    return output_is_out();
+    free(picture.path);
+    return answer == 0 && output_is_out();
+}
+
+/* 0 if the word isn't a whole number below 2^32. */
+static int read_whole(const char *word, uint32_t *number) {
+    uint64_t value = 0;
+    const char *digit = word;
+    for (; *digit >= '0' && *digit <= '9' && value <= UINT32_MAX; digit++)
+        value = 10 * value + (uint64_t)(*digit - '0');
+    *number = (uint32_t)value;
+    return digit != word && *digit == 0 && value <= UINT32_MAX;
 }
 
 int main(int argc, char **argv) {
     struct plan_text text;
     struct plan plan;
+    uint32_t place[2];
     int fine;
-    if (argc != 2) {
-        fputs("usage: spy FILE.txt > PICTURE.svg\n", stderr);
+    if (argc != 2 && !(argc == 4 && read_whole(argv[2], &place[0]) && read_whole(argv[3], &place[1]))) {
+        fputs("usage: spy FILE.txt [ROW COLUMN] > PICTURE.svg\n", stderr);
         return 2;
     }
     if (!plan_text_read(argv[1], &text))
         return EXIT_FAILURE;
     plan = plan_of_text(&text);
-    fine = drawn(&plan);
+    fine = drawn(&plan, argc == 4 ? place : NULL);
     plan_free(&plan);
     plan_text_free(&text);
     return fine ? EXIT_SUCCESS : EXIT_FAILURE;

@@ -42,6 +42,8 @@ enum crout_refusal_number {
     CROUT_OUTPUT_SHORT = 19, /* the entries needed */
     CROUT_LISTING_TEXT = 20, /* the listing program's alone: the position in its input, in bytes from 1 */
     CROUT_LIMIT = 21,
+    CROUT_NOT_HELD = 22,
+    CROUT_LIST_SHORT = 23,
     CROUT_SIDES = 25,
     CROUT_DIAGONAL_MISSING = 26, /* the first row r whose place (r, r) is not in the plan */
     CROUT_UNSETTLED = 27,
@@ -121,6 +123,11 @@ static inline const char *crout_refusal_text(uint32_t number) {
     case CROUT_LIMIT:
         return "the limit for pivots, or a sweep's tolerance, is negative, infinite or not a number: "
                "give 0, or the size up to which a pivot counts as zero or an entry as settled";
+    case CROUT_NOT_HELD:
+        return "the place is not held or lies outside the table, so no path leads from its row to its column: "
+               "ask for a place that has a slot";
+    case CROUT_LIST_SHORT:
+        return "the list for a path is too short: lend one entry more than the order";
     case CROUT_SIDES:
         return "the number of right sides is outside 1 to 64: run them in calls of at most 64";
     case CROUT_DIAGONAL_MISSING:
@@ -171,6 +178,15 @@ uint64_t crout_check(const uint8_t *file, size_t file_len);
    Refusals 1 to 5, 7 to 13, 28. */
 uint64_t crout_compare(uint32_t n, const uint32_t *plan, size_t plan_len, uint32_t *work, size_t work_len,
                        const uint32_t *words, size_t words_len);
+
+/* Why place (i, j) of a plan of order n is held, also where a pivot is missing: a list of unknowns from i to j, at least two entries. Each
+   pair of neighbours in it, the row first, is a place of the plan, each entry between the ends is below both i and j, and none is there
+   twice, except i as j. list is at least n + 1 entries; those past the path, and after a refusal all, keep their content. work is at least
+   n * n numbers: 1 to 4 leave it unchanged, else number K ends as the slot of label K, or 0 if it is not held, also after 22 and 23. So a
+   call for place (0, 0) with a list of no entries gives the slots of a plan that misses a pivot.
+   out: the entries, 0, 0. Refusals 1 to 4, 22, 23. */
+uint64_t crout_fill_path(uint32_t n, const uint32_t *plan, size_t plan_len, uint32_t i, uint32_t j, uint32_t *work, size_t work_len,
+                         uint32_t *list, size_t list_len, uint64_t out[3]);
 
 /* Writes words as a program file. out: bytes written, 0, 0. Refusals 7 and 19. */
 uint64_t crout_write(const uint32_t *words, size_t words_len, uint8_t *bytes, size_t bytes_len, uint64_t out[3]);

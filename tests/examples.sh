@@ -86,11 +86,43 @@ same tests/examples/weather.out 0 $at/weather
 $at/weather >/dev/full 2>$at/said && fail "weather's lost output went unnoticed"
 grep -q '^standard output: ' $at/said || fail "weather's lost output wasn't reported"
 
-# spy: the stored pictures, and a plan of the largest order
+# what a picture's legend says of its path
+path_legend() {
+    $at/spy "$@" | sed -n '/>Why (/,/^<\/g>/s/^<text[^>]*>\(.*\)<\/text>$/\1/p'
+}
+
+# path ENTRIES FILE ROW COLUMN: spy draws this path of the place
+path() {
+    {
+        echo "Why ($3, $4) is held: a path of $(wc -w <<<"$1") entries through places of the plan"
+        xargs -n 16 <<<"$1"
+    } >$at/legend
+    same $at/legend 0 path_legend "${@:2}"
+}
+
+# spy: the stored pictures, paths, and a plan of the largest order
 same docs/pictures/document002.svg 0 $at/spy examples/document002.txt
 same docs/pictures/grid.svg 0 $at/spy examples/grid.txt
+same docs/pictures/path.svg 0 $at/spy examples/grid.txt 13 12
 same tests/examples/missing.svg 0 $at/spy tests/examples/missing.txt
-says 'usage: spy FILE.txt > PICTURE.svg' 2 $at/spy
+path '13 7 1 2 3 4 5 6 12' examples/grid.txt 13 12
+path '7 13' examples/grid.txt 7 13
+path '3 1 3' tests/examples/missing.txt 3 3
+path '6 2 4' tests/examples/missing.txt 6 4
+not_held='  refusal 22, detail 0: the place is not held or lies outside the table, so no path leads from its row to its column: '
+not_held+='ask for a place that has a slot'
+says "$not_held" 1 $at/spy examples/grid.txt 1 36
+says "$not_held" 1 $at/spy examples/grid.txt 0 0
+says "$not_held" 1 $at/spy examples/grid.txt 4294967295 36
+says "$not_held" 1 $at/spy tests/examples/missing.txt 2 2
+usage='usage: spy FILE.txt [ROW COLUMN] > PICTURE.svg'
+says "$usage" 2 $at/spy
+says "$usage" 2 $at/spy examples/grid.txt 13
+says "$usage" 2 $at/spy examples/grid.txt 13 12 11
+for number in '' -1 +1 ' 1' 1x 0x1 1.0 4294967296 18446744073709551617; do
+    says "$usage" 2 $at/spy examples/grid.txt 13 "$number"
+    says "$usage" 2 $at/spy examples/grid.txt "$number" 12
+done
 $at/spy tests/examples/twice.txt >$at/said 2>&1 && fail "spy drew a plan with a place twice"
 {
     echo 'order 600'
@@ -98,6 +130,13 @@ $at/spy tests/examples/twice.txt >$at/said 2>&1 && fail "spy drew a plan with a 
     echo 'place 1 1'
 } >$at/arrow.txt
 [ "$($at/spy $at/arrow.txt | grep -c '<title>slot ')" = 360000 ] || fail "the arrow of order 600 isn't filled"
+path '600 1 599' $at/arrow.txt 600 599
+{
+    echo 'order 600'
+    for i in {1..599}; do echo "place $i $((i + 1))"; done
+    echo 'place 600 1'
+} >$at/longest.txt
+path "600 $(echo {1..600})" $at/longest.txt 600 600
 
 # bad lines
 broken '1: the text ends without an order' '# nothing\n'

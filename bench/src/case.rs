@@ -57,6 +57,12 @@ pub fn random_sparse(n: u32) -> Vec<u32> {
     networks::scattered(n, 1.0, 4.0 / f64::from(n - 1), &mut Random(1))
 }
 
+/// The diagonal, a place from each room to the next, and one from the last to the first: the path of its last place names every room.
+pub fn way_round(n: u32) -> Vec<u32> {
+    let next = (1..n).map(|i| (i, i + 1)).chain([(n, 1)]);
+    networks::plan_of(n, (1..=n).map(|i| (i, i)).chain(next))
+}
+
 #[cfg(test)]
 mod tests {
     use crout_tests::reading::plan::Held;

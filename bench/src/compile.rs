@@ -34,7 +34,7 @@ fn lent(case: &Case, squares: usize) -> RefCell<Written> {
 type Call<A> = fn(u32, &[u32], &mut [u32], &mut [u32]) -> A;
 
 /// The library's compiler and the plain one, which both write the case's program.
-struct Compilers<'a> {
+pub struct Compilers<'a> {
     case: &'a Case,
     ours: Call<Answer>,
     plain: Call<Result<plain::compile::Written, Refusal>>,
@@ -42,7 +42,7 @@ struct Compilers<'a> {
 }
 
 impl<'a> Compilers<'a> {
-    fn new(case: &'a Case) -> Self {
+    pub fn new(case: &'a Case) -> Self {
         Self { case, ours: calls::compile::compile, plain: plain::compile::compile, to: lent(case, 1) }.compared()
     }
 
@@ -65,7 +65,7 @@ impl<'a> Compilers<'a> {
         self
     }
 
-    fn ours(&self) -> Caller<'_> {
+    pub fn ours(&self) -> Caller<'_> {
         let Case { n, plan, .. } = self.case;
         caller(&self.to, Written::clear, |to| (self.ours)(*n, plan, &mut to.work, &mut to.words))
     }

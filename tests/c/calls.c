@@ -2,7 +2,7 @@
    with a message and status 1.
 
    GROUPS says how many groups of functions the library has: 1 labels, 2 compile, 3 check, write and read, 4 run and solve, 5 run many
-   right sides, 6 compare a program with a plan. */
+   right sides, 6 compare a program with a plan, 7 show a path. */
 #include "crout.h"
 
 #include <stdio.h>
@@ -10,7 +10,7 @@
 #include <string.h>
 
 #ifndef GROUPS
-#define GROUPS 6
+#define GROUPS 7
 #endif
 
 #define COUNT(row) (sizeof(row) / sizeof((row)[0]))
@@ -502,6 +502,59 @@ static void compare_refused(void) {
 }
 
 #endif
+#if GROUPS >= 7
+
+static uint32_t list[8];
+
+/* What the call returns for place (i, j) of a plan and a list of so many entries, with work numbers, list and out full of sevens before. */
+static uint64_t traced(uint32_t n, const uint32_t *plan, size_t plan_len, uint32_t i, uint32_t j, size_t work_len, size_t list_len,
+                       uint64_t out[3]) {
+    size_t k;
+    sevens(out);
+    for (k = 0; k < COUNT(list); k++)
+        list[k] = 7;
+    return crout_fill_path(n, plan, plan_len, i, j, work, work_len, list, list_len, out);
+}
+
+/* Whether the list begins with these entries and then has its sevens. */
+static int list_is(const uint32_t *entries, size_t count) {
+    size_t k;
+    for (k = 0; k < COUNT(list); k++)
+        if (list[k] != (k < count ? entries[k] : 7))
+            return 0;
+    return 1;
+}
+
+/* Whether a call was refused, and list and out are as they have to be then. */
+static int untraced(uint64_t returned, uint32_t number, uint32_t detail, const uint64_t out[3]) {
+    return returned == refusal(number, detail) && list_is(NULL, 0) && same_numbers(out, 0, 0, 0);
+}
+
+static void paths(void) {
+    const uint32_t corner[] = {3, 4}, corner_path[] = {3, 1, 2}, slots[] = {0, 0, 1, 2, 0, 0, 3, 0, 0, 7};
+    const uint32_t round[] = {4, 5, 11, 15}, round_path[] = {4, 1, 2, 3, 4};
+    uint64_t out[3];
+    expect(traced(3, corner, 2, 3, 2, 10, 5, out) == 0 && same_numbers(out, 3, 0, 0) && list_is(corner_path, 3), "F1, three entries");
+    expect(memcmp(work, slots, sizeof slots) == 0, "F4, the slots after a path");
+    expect(traced(4, round, 4, 4, 4, 16, 5, out) == 0 && same_numbers(out, 5, 0, 0) && list_is(round_path, 5), "F1, a way round");
+    expect(untraced(traced(3, corner, 2, 2, 3, 10, 4, out), 22, 0, out), "F3, the wrong way round");
+    expect(memcmp(work, slots, sizeof slots) == 0, "F4, the slots after 22");
+    expect(untraced(traced(3, corner, 2, 3, 4, 10, 3, out), 22, 0, out), "F3, 22 for a place outside, before 23");
+    expect(untraced(traced(3, corner, 2, 0, 0, 10, 0, out), 22, 0, out), "F3, no place and no list");
+    expect(untraced(traced(3, corner, 2, 3, 2, 10, 3, out), 23, 0, out), "F3, a list of as many entries as the order");
+    expect(memcmp(work, slots, sizeof slots) == 0, "F4, the slots after 23");
+}
+
+static void paths_refused(void) {
+    const uint32_t all[] = {1, 2, 3, 4}, twice[] = {1, 1}, five[] = {5};
+    uint64_t out[3];
+    expect(untraced(traced(601, all, 1, 1, 1, 4, 8, out), 1, 0, out) && work_is(7, 7, 7, 7), "1 of a path");
+    expect(untraced(traced(2, all, 4, 3, 3, 3, 0, out), 2, 4, out) && work_is(7, 7, 7, 7), "2 before 22 and 23");
+    expect(untraced(traced(2, five, 1, 1, 1, 4, 8, out), 3, 1, out) && work_is(7, 7, 7, 7), "3 of a path");
+    expect(untraced(traced(2, twice, 2, 1, 2, 4, 8, out), 4, 2, out) && work_is(7, 7, 7, 7), "4 before 22");
+}
+
+#endif
 
 int main(void) {
     labels();
@@ -531,6 +584,10 @@ int main(void) {
 #if GROUPS >= 6
     compare();
     compare_refused();
+#endif
+#if GROUPS >= 7
+    paths();
+    paths_refused();
 #endif
     return 0;
 }

@@ -4,7 +4,7 @@ use crate::random::Random;
 use crate::reading::labels::label;
 
 /// The plan that has these places, in any order and perhaps more than once.
-fn plan_of(n: u32, places: impl IntoIterator<Item = (u32, u32)>) -> Vec<u32> {
+pub fn plan_of(n: u32, places: impl IntoIterator<Item = (u32, u32)>) -> Vec<u32> {
     let mut plan: Vec<u32> = places.into_iter().map(|(i, j)| label(n, i, j)).collect();
     plan.sort_unstable();
     plan.dedup();

@@ -76,8 +76,8 @@ fn empties(first: &[usize], m: usize, marks: &[u32]) -> usize {
 }
 
 impl Table {
-    /// Checks 1 to 5, where 2 wants so many squares of work numbers; the first of them gets the slots.
-    pub(super) fn of(n: u32, plan: &[u32], squares: usize, work: &mut [u32]) -> Result<Self, Refusal> {
+    /// Checks 1 to 4, where 2 wants so many squares of work numbers; the first of them gets the slots.
+    pub(super) fn slotted(n: u32, plan: &[u32], squares: usize, work: &mut [u32]) -> Result<Self, Refusal> {
         if !(1..=600).contains(&n) {
             return Err((1, 0));
         }
@@ -88,9 +88,14 @@ impl Table {
         judge(n, plan)?;
         let slots = &mut work[..square];
         mark(plan, slots);
-        let table = Self::fill(n as usize, slots);
+        Ok(Self::fill(n as usize, slots))
+    }
+
+    /// The same, and 5.
+    pub(super) fn of(n: u32, plan: &[u32], squares: usize, work: &mut [u32]) -> Result<Self, Refusal> {
+        let table = Self::slotted(n, plan, squares, work)?;
         if table.missing != 0 {
-            work[..squares * square].fill(0);
+            work[..squares * (n * n) as usize].fill(0);
             return Err((5, table.missing as u64));
         }
         Ok(table)

@@ -8,21 +8,26 @@ use crout_tests::random::Random;
 use crout_tests::reading::dense::At;
 use crout_tests::{programs, reading};
 
-use super::{Refusal, check, compact, compare, compile, dense, file, many, run};
+use super::{Refusal, check, compact, compare, compile, dense, file, many, path, run};
 
 /// A call that compiles: order, plan, work numbers and words.
 type Call<T> = fn(u32, &[u32], &mut [u32], &mut [u32]) -> Result<T, Refusal>;
+
+/// Three plans of ten get a label at the end, one anywhere, or another order.
+fn damage(n: &mut u32, plan: &mut Vec<u32>, random: &mut Random) {
+    match random.below(10) {
+        0 => plan.push(random.next() as u32),
+        1 => plan.insert(random.below(plan.len() + 1), random.below((*n * *n) as usize + 2) as u32),
+        2 => *n = 601 * random.below(2) as u32,
+        _ => {}
+    }
+}
 
 /// Both compilers on plans of all kinds and slices of many lengths; so many squares of work numbers are needed.
 fn compare_compilers(plain: Call<compile::Written>, read: Call<reading::plan::Written>, squares: usize, seed: u64) {
     let random = &mut Random(seed);
     for (mut n, mut plan) in networks::plans(seed, 3000) {
-        match random.below(10) {
-            0 => plan.push(random.next() as u32),
-            1 => plan.insert(random.below(plan.len() + 1), random.below((n * n) as usize + 2) as u32),
-            2 => n = 601 * random.below(2) as u32,
-            _ => {}
-        }
+        damage(&mut n, &mut plan, random);
         let needed = squares * (n * n) as usize;
         let mut work = vec![7; if random.chance(0.1) { needed / 2 } else { needed + 1 }];
         let mut words = vec![7; random.below(20_000)];
@@ -280,4 +285,29 @@ fn the_same_dense_crout() {
         }
     }
     assert_eq!(met.len(), 6, "only {met:?}");
+}
+
+/// Any list will do, so the reading says whether what is given is a path.
+#[test]
+fn the_same_refusals_and_paths() {
+    let random = &mut Random(9);
+    let mut refused = BTreeSet::new();
+    for (mut n, mut plan) in networks::plans(9, 3000) {
+        damage(&mut n, &mut plan, random);
+        let place = (random.below(n as usize + 2) as u32, random.below(n as usize + 2) as u32);
+        let needed = (n * n) as usize;
+        let mut work = vec![7; if random.chance(0.1) { needed / 2 } else { needed + 1 }];
+        let before = vec![7; n as usize + random.below(4)];
+        let (mut list, mut read_work) = (before.clone(), work.clone());
+        let given = path::fill_path(n, &plan, place, &mut work, &mut list);
+        let verdict = reading::path::trace(n, &plan, place, &mut read_work, list.len());
+        assert!(given.map(|_| ()) == verdict && work == read_work, "order {n}, place {place:?}, plan {plan:?}: {given:?}");
+        let entries = given.unwrap_or(0) as usize;
+        assert!(list[entries..] == before[entries..], "later entries");
+        match given {
+            Ok(_) => assert!(reading::path::Rooms::of(n, &plan).is_path(place, &list[..entries]), "{list:?}"),
+            Err((number, _)) => drop(refused.insert(number)),
+        }
+    }
+    assert_eq!(refused, BTreeSet::from([1, 2, 3, 4, 22, 23]));
 }

@@ -2,14 +2,17 @@
 use checker::Checked;
 use codec::Filing;
 use compiler::Compilation;
+use paths::Traced;
 use runner::Outcome;
 ghost use mathlib.Core.Path.{_≡_};
 ghost use Prim.Native.Nat.{_<_, _^_};
 ghost use Rattle.model.specs.Boundary.{refusalNumber, verdictNumber, compiledNumber, compiledNumbers, filedNumber, filedNumbers};
-ghost use Rattle.model.specs.Boundary.{replyNumber, replyNumbers, limitNumbers};
+ghost use Rattle.model.specs.Boundary.{replyNumber, replyNumbers, limitNumbers, tracedNumbers};
+ghost use Rattle.model.specs.Path.{tracedVerdict};
 ghost use Rattle.checker.specs.Checked.{verdictOf};
 ghost use Rattle.compiler.specs.Compilation.{compiledOf};
 ghost use Rattle.codec.specs.Filing.{filedOf};
+ghost use Rattle.paths.specs.Traced.{tracedOf};
 ghost use Rattle.runner.specs.Outcome.{replyOf};
 
 // The refusal's number times 2^32 plus its detail.
@@ -63,6 +66,23 @@ pub fn file_answer(answer: Filing, out: &mut [u64; 3]) -> u64
             0
         }
         Filing::Refused { number, detail } => {
+            *out = [0, 0, 0];
+            refusal(number, detail)
+        }
+    }
+}
+
+// A path's answer: its entries.
+pub fn path_answer(answer: Traced, out: &mut [u64; 3]) -> u64
+    requires { ⌜ verdictNumber (tracedVerdict (tracedOf answer)) < 2 ^ 64 ⌝ }
+    ensures { λ r. ⌜ (r ≡ verdictNumber (tracedVerdict (tracedOf answer))) × (now (out .exit) ≡ tracedNumbers (tracedOf answer)) ⌝ }
+{
+    match answer {
+        Traced::Found { entries } => {
+            *out = [entries as u64, 0, 0];
+            0
+        }
+        Traced::Refused { number, detail } => {
             *out = [0, 0, 0];
             refusal(number, detail)
         }

@@ -1,9 +1,10 @@
-// The functions exported for C: document 01, "The C boundary"; document 02, A.1, A.6, A.7, A.10 and A.11. The header is include/crout.h.
+// The functions exported for C: document 01, "The C boundary"; document 02, A.1, A.2, A.6, A.7, A.10 and A.11. The header is include/crout.h.
 mod answers;
 
 use answers::compile_answer;
 use answers::file_answer;
 use answers::limit_answer;
+use answers::path_answer;
 use answers::run_answer;
 use answers::verdict_answer;
 use labels::Located;
@@ -14,6 +15,7 @@ ghost use Rattle.model.specs.Compile.{compact, sweep, compiles, workAfter, comp
 ghost use Rattle.model.specs.Compile.{wordsAfter as Compile·wordsAfter};
 ghost use Rattle.model.specs.Check.{word};
 ghost use Rattle.model.specs.Compare.{compares, workCompared};
+ghost use Rattle.model.specs.Path.{tracing, workTraced};
 ghost use Rattle.model.specs.Formula.{C, Y, X};
 ghost use Rattle.model.specs.Many.{ranMany, verdict, replies, leavesMany};
 ghost use Rattle.model.specs.Run.{ran, reply, leaves};
@@ -21,7 +23,7 @@ ghost use Rattle.model.specs.Solve.{solving, replied, leftIn};
 ghost use Rattle.model.specs.File.{writes, reads, bytesAfter, wordsAfter};
 ghost use Rattle.model.specs.Boundary.{labelNumber, placeNumber, checkNumber, verdictNumber, manyNumbers};
 ghost use Rattle.model.specs.Boundary.{compiledNumber, compiledNumbers, filedNumber, filedNumbers};
-ghost use Rattle.model.specs.Boundary.{replyNumber, replyNumbers, limitNumbers};
+ghost use Rattle.model.specs.Boundary.{replyNumber, replyNumbers, limitNumbers, Told};
 
 // The label of (i, j) in a table of order n; 0 if any of the three is out of range.
 #[no_mangle]
@@ -111,6 +113,24 @@ pub extern "C" fn crout_compare(n: u32, plan: &[u32], work: &mut [u32], words: &
     ensures work { λ r. ⌜ now (work .exit) ≡ workCompared n (now (plan .entry)) (now (work .entry)) ⌝ }
 {
     verdict_answer(copies::compare(n, plan, work, words))
+}
+
+// Why place (i, j) is held: a path from i to j through places of the plan, in the list. 1 to 4 of the plan, then 22 and 23. out: its entries.
+#[no_mangle]
+pub extern "C" fn crout_fill_path(
+    n: u32,
+    plan: &[u32],
+    i: u32,
+    j: u32,
+    work: &mut [u32],
+    list: &mut [u32],
+    out: &mut [u64; 3],
+) -> u64
+    ensures answer { λ r. ⌜ r ≡ verdictNumber (tracing n (now (plan .entry)) i j (length (now (work .entry))) (length (now (list .entry)))) ⌝ }
+    ensures work { λ r. ⌜ now (work .exit) ≡ workTraced n (now (plan .entry)) (now (work .entry)) ⌝ }
+    ensures path { λ r. ⌜ Told n (now (plan .entry)) i j (length (now (work .entry))) (now (list .entry)) (now (list .exit)) (now (out .exit)) ⌝ }
+{
+    path_answer(paths::fill_path(n, plan, i, j, work, list), out)
 }
 
 // Writes words as a program file. out: the bytes written.

@@ -31,12 +31,16 @@ module _ (N i j : ℕ) where
       let inner = and-eq-true-iff (within i N) (within j N) .0 (both .1) in
       omega (arith, within-range N 600 (both .0), within-range i N (inner .0), within-range j N (inner .1))
 
-  pub inside-isPlace : Within N 600 → Inside N i j → true ≡ isPlace N i j
+  inside-isPlace : Within N 600 → Inside N i j → true ≡ isPlace N i j
   inside-isPlace order inside = isPlace-is (within-is N 600 order) (within-is i N (omega arith)) (within-is j N (omega arith))
 
   pub labelNumber-is : {b : Bool} → b ≡ isPlace N i j → elim b [ true ↦ label N i j | false ↦ 0 ] ≡ labelNumber N i j
   unfolding labelNumber
   labelNumber-is e = ap {B = ℕ} (λ b. elim b [ true ↦ label N i j | false ↦ 0 ]) e
+
+  -- in range it is the label
+  pub label-answered : N ≤ 600 → Inside N i j → labelNumber N i j ≡ label N i j
+  label-answered high inside = sym (labelNumber-is (inside-isPlace (omega arith) inside))
 
 -- labels: the test `isLabel`, and the place of a label by its outcome
 

@@ -6,7 +6,7 @@ use Rattle.model.specs.Label.{isPlace, isLabel, label, Sought, at, outside, sou
 use Rattle.model.specs.Boundary.{labelNumber}
 use Rattle.model.proofs.Labels.{label-range, place-range, label-of-place, place-of-label}
 use Rattle.labels.specs.Located.{placed}
-use Rattle.labels.proofs.Range.{isPlace-true, inside-isPlace, labelNumber-is, isLabel-true, range-isLabel, sought-is, sought-zero}
+use Rattle.labels.proofs.Range.{isPlace-true, labelNumber-is, label-answered, isLabel-true, range-isLabel, sought-is, sought-zero}
 
 -- the label of what was found, 0 if nothing was
 abbrev pub labelOf : ℕ → Sought → ℕ
@@ -21,7 +21,7 @@ label-again N k = step (isLabel N k) refl
     step true e =
         let range = isLabel-true N k e in
         let inside = place-range N k (range .1 .0) (range .1 .1) in
-        ap (labelOf N) (sym (sought-is N k e)) ∙ sym (labelNumber-is N _ _ (inside-isPlace N _ _ (range .0) inside)) ∙
+        ap (labelOf N) (sym (sought-is N k e)) ∙ label-answered N _ _ (range .0 .1) inside ∙
         label-of-place N k (range .1 .0) (range .1 .1) ∙ ap (λ b. cond b k 0) e
 
 pub place-again : (N i j : ℕ) → sought N (labelNumber N i j) ≡ placed N i j

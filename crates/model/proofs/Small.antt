@@ -5,12 +5,13 @@ use mathlib.Core.Bool.{Bool, true, false, cond, _&&_}
 use mathlib.Core.List.{List, [], _∷_, map}
 use native.Mathlib.Omega.{arith}
 use native.Mathlib.Nat.{mul-le-mul}
+use native.Mathlib.Decide.{decLe}
 use lib.Dec.{eqb, leb, ltb}
 use lib.ListN.{length}
 use lib.Ieee.{Float}
 use borrow.Author.Tests.{ltb-true, eqb-false}
-use Rattle.model.specs.Label.{isOrder, within, label}
-use Rattle.model.specs.Fill.{Plan, slots, position, missing}
+use Rattle.model.specs.Label.{isOrder, within, label, isPlace}
+use Rattle.model.specs.Fill.{Plan, slots, position, held, missing}
 use Rattle.model.specs.Check as Check
 use Rattle.model.specs.Check.{Link, Kind, opens, subtracts, divides, closes, closesPivot, none, Progress, Verdict, fine}
 use Rattle.model.specs.Check.{End, whole, broken, Chain, chainAfter, chain, nextOf, recordAt, before}
@@ -24,9 +25,10 @@ use Rattle.model.specs.Run.{onceMore, onlyX, sweptOver, notFinite, check
 use Rattle.model.specs.Many.{sides, noneRun, ranMany, verdict}
 use Rattle.model.specs.Compile as Compile
 use Rattle.model.specs.Compile.{Compiled, written, Labels, good, bad, judged, Compiler, plain, compact, sweep, wanted, gap, gapAt}
-use Rattle.model.specs.Compile.{slotsBy, productsBy, recordsBy, admits, compilesBy, compiles}
+use Rattle.model.specs.Compile.{slotsBy, productsBy, recordsBy, orderly, admits, compilesBy, compiles}
 use Rattle.model.specs.Program.{Record, compiledRecords, compiled}
 use Rattle.model.specs.Compare.{sameRecord, compared, compares}
+use Rattle.model.specs.Path.{tracing}
 use Rattle.model.specs.Solve.{replied}
 use Rattle.model.specs.File as File
 use Rattle.model.specs.File.{Filed, filed, writes, reads, wordsOf, checkFile}
@@ -39,6 +41,7 @@ use Rattle.model.proofs.Runs.{gated-each, values-each, lengthsRight, do
 use Rattle.model.proofs.Sides.{alongChain, lengthsFit, ownRuns, manyBy, many-is}
 use Rattle.model.proofs.Counts.{words-counted}
 use Rattle.model.proofs.Bounds.{records-at-most}
+use Rattle.model.proofs.Tracing.{tracing-early, tracing-unheld, tracing-short, tracing-fine}
 
 -- a refusal's number is at most 30 and its detail at most b
 abbrev pub Small : ℕ → ℕ → ℕ → Type 0
@@ -295,6 +298,23 @@ compares-small N L work W =
     go good (Check.refusal r d) head plan program = omega arith
     go good fine false plan program = omega arith
     go good fine true plan program = wider rest (compared-small (length W / 4) 0 (compiledRecords N L) (chain W .links) (omega arith) (chain-links-up-to W))
+
+-- ---- a path: 1 to 4, 22 and 23
+
+pub tracing-small : (N : ℕ) (L : Plan) (i j work entries : ℕ) → SmallVerdict (100000000 + length L) (tracing N L i j work entries)
+unfolding admits
+tracing-small N L i j work entries =
+    go (orderly (N * N) N L work) (isPlace N i j && held N L i j) refl refl (λ r d e. admits-small N L work r d (rw (e, admits)))
+  where
+    go : (a : Labels) (there : Bool) → orderly (N * N) N L work ≡ a → (isPlace N i j && held N L i j) ≡ there
+        → ((r d : ℕ) → orderly (N * N) N L work ≡ bad r d → Small (100000000 + length L) r d)
+        → SmallVerdict (100000000 + length L) (tracing N L i j work entries)
+    go (bad r d) there e h plan = rw (tracing-early N L i j work entries r d e) (plan r d e)
+    go good false e h plan = rw (tracing-unheld N L i j work entries e h) (omega arith)
+    go good true e h plan = elim (decLe entries N) [
+      | yes few ↦ rw (tracing-short N L i j work entries e h few) (omega arith)
+      | no more ↦ rw (tracing-fine N L i j work entries e h (omega arith)) tt
+    ]
 
 -- ---- the run
 

@@ -1,4 +1,4 @@
--- Document 01's "Known plans and values" and its listing, and values for document 02's A.1, A.5, A.6, A.7, A.9, A.10 and A.11, as one theorem
+-- Document 01's "Known plans and values" and its listing, and values for document 02's A.1, A.2, A.5, A.6, A.7, A.9, A.10 and A.11, as one theorem
 -- about the definitions.
 use Prim.Native.Nat.{ℕ, suc, _*_}
 use mathlib.Core.Bool.{true, false}
@@ -8,8 +8,8 @@ use lib.IntN.{pos, negsuc}
 use lib.ListN.{take, drop, replicate}
 use lib.Ieee.{Float, inf, fin, binary64, ofInt, mul, sub, div, neg, lt, eq, le}
 use Rattle.model.specs.Lists.{rising, falling, joined, kept, total, some, count}
-use Rattle.model.specs.Label.{label, column, row, places, place}
-use Rattle.model.specs.Fill.{Plan, positionFrom, position, heldWithin, held, heldPlaces, slots, slot}
+use Rattle.model.specs.Label.{isPlace, label, column, row, places, place}
+use Rattle.model.specs.Fill.{Plan, positionFrom, position, inPlan, heldWithin, held, heldPlaces, slots, slot}
 use Rattle.model.specs.Fill.{missingFrom, missing, pairsAt, below, above, productCount, recordCount}
 use Rattle.model.specs.Arith.{plusZero, clean, settled, isZero, isFinite, product, difference, quotient, vanishes, isSmall, isLimit, next}
 use Rattle.model.specs.Formula.{C, Y, X, Tables, solved, refused, put, putX, entry, closed, starting}
@@ -27,6 +27,7 @@ use Rattle.model.specs.Run.{solves, stops, reply, leaves}
 use Rattle.model.specs.Many.{parts, Outcomes, noneRun, ranMany, readBy, read, each, replies, sharedC, leavesMany}
 use Rattle.model.specs.Agreement.{Seen, seen}
 use Rattle.model.specs.Compare.{sameRecord, compared, compares, workCompared}
+use Rattle.model.specs.Path.{named, distinct, leads, isPath, tracing, workTraced}
 use Rattle.model.specs.Marked.{Placed, solvedAs, refusedAt, valueAt, placed, productsMade}
 
 abbrev int : ℕ → Float
@@ -227,6 +228,13 @@ marked₁ = int 2 ∷ plusZero ∷ neg plusZero ∷ int 4 ∷ []
 abbrev placed₁ : Placed
 placed₁ = solvedAs (int 2 ∷ plusZero ∷ plusZero ∷ int 4 ∷ []) (ints (1 ∷ 3 ∷ [])) (ints (1 ∷ 3 ∷ [])) 0
 
+-- the places (3, 1) and (1, 2) of order 3, and those of a way round in order 4: (4, 1), (1, 2), (2, 3) and (3, 4)
+abbrev corner : Plan
+corner = 3 ∷ 4 ∷ []
+
+abbrev round : Plan
+round = 4 ∷ 5 ∷ 11 ∷ 15 ∷ []
+
 pub record Known : Type 0 where
   p1 : (label 6 5 2 ≡ 15) × (label 6 1 6 ≡ 11) × (label 6 6 6 ≡ 36) × (place 6 15 ≡ (5, 2)) × (place 6 11 ≡ (1, 6)) × (place 6 36 ≡ (6, 6))
   p2 : compiles 2 (1 ∷ 2 ∷ 3 ∷ []) 4 92 ≡ written 4 3 23
@@ -336,6 +344,17 @@ pub record Known : Type 0 where
   w2 : (placed 2 diagonal₂ (apart (ints (2 ∷ 0 ∷ []))) ≡ refusedAt 17 (2, 2))
       × (placed 2 full₂ (walled (int 2 ∷ neg plusZero ∷ plusZero ∷ int 0 ∷ [])) ≡ refusedAt 17 (2, 2))
   w3 : (missing 2 (2 ∷ 3 ∷ []) ≡ 1) × (placed 2 full₂ (walled (plusZero ∷ int 4 ∷ int 1 ∷ neg plusZero ∷ [])) ≡ refusedAt 17 (1, 1))
+  -- A.2: a path, also one that goes round; what is none: a room named twice, one that is not below both, a pair that is not in the plan, or that is the
+  -- wrong way round, and another end; a place that is not held, or outside, and a list that is too short; and the work slice, with pivots missing
+  f1 : (tracing 3 corner 3 2 9 4 ≡ fine) × (isPath 3 corner 3 2 (3 ∷ 1 ∷ 2 ∷ []) ≡ true) × (isPath 4 round 4 4 (4 ∷ 1 ∷ 2 ∷ 3 ∷ 4 ∷ []) ≡ true)
+  f2 : (isPath 3 (full 3) 3 3 (3 ∷ 1 ∷ 1 ∷ 3 ∷ []) ≡ false)
+      × (isPath 3 (full 3) 2 2 (2 ∷ 3 ∷ 2 ∷ []) ≡ false)
+      × (isPath 3 corner 3 2 (3 ∷ 2 ∷ []) ≡ false)
+      × (isPath 3 corner 2 3 (2 ∷ 1 ∷ 3 ∷ []) ≡ false)
+      × (isPath 3 corner 3 2 (3 ∷ 1 ∷ []) ≡ false)
+      × (isPath 3 corner 3 2 (3 ∷ []) ≡ false)
+  f3 : (tracing 3 corner 2 3 9 4 ≡ Check.refusal 22 0) × (tracing 3 corner 3 4 9 3 ≡ Check.refusal 22 0) × (tracing 3 corner 3 2 9 3 ≡ Check.refusal 23 0)
+  f4 : workTraced 3 corner (replicate 10 9) ≡ 0 ∷ 0 ∷ 1 ∷ 2 ∷ 0 ∷ 0 ∷ 3 ∷ 0 ∷ 0 ∷ 9 ∷ []
   -- the listing for input `1 1`, a record a line
   listing : compiled 1 one
       ≡ 1 ∷ 1 ∷ 1 ∷ 1
@@ -361,6 +380,7 @@ unfolding rising falling joined kept total some count label column row places pl
     chainAfter chain kindOf belongs formed inOrder inTurn inRow allowed complete checkLinks checkFrom check
     step follow followed notFinite checkValues sweptOver ran reply leaves
     parts ranMany readBy read replies sharedC leavesMany sameRecord compared compares workCompared seen valueAt placed productsMade
+    isPlace inPlan named distinct leads isPath tracing workTraced
     mul sub div neg lt eq le ofInt
 known = record {
   p1 = (refl, refl, refl, refl, refl, refl);
@@ -411,5 +431,9 @@ known = record {
   w1 = (refl, refl, refl, refl);
   w2 = (refl, refl);
   w3 = (refl, refl);
+  f1 = (refl, refl, refl);
+  f2 = (refl, refl, refl, refl, refl, refl);
+  f3 = (refl, refl, refl);
+  f4 = refl;
   listing = refl;
 }

@@ -28,35 +28,35 @@ sizes {each} {N} few order =
 pub places-some : (each N : ℕ) → 1 ≤ each → N * N ≤ each * (N * N)
 places-some each N some = omega (arith, mul-le-mul {n₁ = 1} {m₁ = N * N} {n₂ = each} {m₂ = N * N} some (omega arith))
 
-module _ {N : ℕ} {L : Plan} {before marks work inRows inColumns : List ℕ} {r : Filled}
-    (marked : Marked N L before marks) (fills : Fills N marks work inRows inColumns r) where
-  -- the slots stand in what came before the marks
-  filled : FillsPlan N L before work inRows inColumns r
-  filled =
-      let f = fills L (marked .marked) in
-      record {
-        slots-are = f .slots-are;
-        products-are = f .products-are;
-        above-are = f .above-are;
-        missing-is = f .missing-is;
-        written = f .written ∙ ap (λ l. slotNumbers N L ++ l) (marked .rest);
-        row-count = f .row-count;
-        column-count = f .column-count;
-        skips = f .skips;
-      }
+-- the slots stand in what came before the marks
+pub filled : {N : ℕ} {L : Plan} {before marks work inRows inColumns : List ℕ} {r : Filled} → Marked N L before marks → Fills N marks work inRows inColumns r
+    → FillsPlan N L before work inRows inColumns r
+filled {N} {L} marked fills =
+    let f = fills L (marked .marked) in
+    record {
+      slots-are = f .slots-are;
+      products-are = f .products-are;
+      above-are = f .above-are;
+      missing-is = f .missing-is;
+      written = f .written ∙ ap (λ l. slotNumbers N L ++ l) (marked .rest);
+      row-count = f .row-count;
+      column-count = f .column-count;
+      skips = f .skips;
+    }
 
+module _ {N : ℕ} {L : Plan} {before work inRows inColumns : List ℕ} {r : Filled} (fills : FillsPlan N L before work inRows inColumns r) where
   -- no pivot is missing
   pub slots-left : {each : ℕ} → r .missing ≡ 0 → Slotted each N L before work inRows inColumns r
-  slots-left none = record { missing-is = filled .missing-is; filled = λ e. filled; cleared = λ some. absurd (some none) }
+  slots-left none = record { missing-is = fills .missing-is; filled = λ e. fills; cleared = λ some. absurd (some none) }
 
   -- one is, and the work numbers are cleared
   pub zeros-left : {each count : ℕ} {cleared : List ℕ} → (r .missing ≡ 0 → ⊥) → 1 ≤ each → count ≡ each * (N * N)
       → cleared ≡ replicate count 0 ++ drop count work → Slotted each N L before cleared inRows inColumns r
   zeros-left {each} some positive all e =
-      let past : drop (N * N) work ≡ drop (N * N) before = rw (filled .written) (drop-at (slotNumbers N L) _ (N * N) (slot-numbers-length N L)) in
+      let past : drop (N * N) work ≡ drop (N * N) before = rw (fills .written) (drop-at (slotNumbers N L) _ (N * N) (slot-numbers-length N L)) in
       let rest : drop (each * (N * N)) work ≡ drop (each * (N * N)) before = drop-later work before _ _ (places-some each N positive) past in
       record {
-        missing-is = filled .missing-is;
+        missing-is = fills .missing-is;
         filled = λ none. absurd (some none);
         cleared = λ s. e ∙ ap (λ k. replicate k 0 ++ drop k work) all ∙ ap (λ l. replicate (each * (N * N)) 0 ++ l) rest;
       }

@@ -5,7 +5,10 @@ use slots::Filled;
 ghost use mathlib.Core.Path.{_≡_};
 ghost use Prim.Native.Nat.{_*_, _≤_};
 ghost use lib.ListN.{length, replicate};
+ghost use mathlib.Core.Bool.{true};
+ghost use Rattle.model.specs.Label.{isOrder};
 ghost use Rattle.model.specs.Compile.{judged, good, orderly};
+ghost use Rattle.slots.specs.Walked.{FillsPlan};
 ghost use Rattle.plans.specs.Judge.{labelsOf};
 ghost use Rattle.plans.specs.Slotted.{Slotted};
 
@@ -65,7 +68,18 @@ fn judge(n: u32, plan: &[u32]) -> Judged
     Judged::Good
 }
 
-// The slots of a plan that 1 to 4 let through, in the work numbers. If a pivot is missing (5), all work numbers that the call wants are 0 instead.
+// The slots of a plan that 1 to 4 let through, in the work numbers, whether a pivot is missing or not.
+pub fn fill(n: u32, plan: &[u32], work: &mut [u32], rows: &mut [u32], columns: &mut [u32]) -> Filled
+    requires { ⌜ (isOrder n ≡ true) × (judged n 0 1 (now plan) ≡ good) ⌝ }
+    requires { ⌜ n * n ≤ length (now work) ⌝ }
+    requires { ⌜ (now rows ≡ replicate 601 601) × (now columns ≡ replicate 601 601) ⌝ }
+    ensures { λ r. ⌜ FillsPlan n (now (plan .entry)) (now (work .entry)) (now (work .exit)) (now (rows .exit)) (now (columns .exit)) r ⌝ }
+{
+    slots::mark(n, plan, work);
+    slots::fill(n, work, rows, columns)
+}
+
+// The same, but if a pivot is missing (5), all work numbers that the call wants are 0 instead.
 pub fn slot(
     n: u32,
     plan: &[u32],
@@ -79,8 +93,7 @@ pub fn slot(
     requires { ⌜ (now rows ≡ replicate 601 601) × (now columns ≡ replicate 601 601) ⌝ }
     ensures { λ r. ⌜ Slotted each n (now (plan .entry)) (now (work .entry)) (now (work .exit)) (now (rows .exit)) (now (columns .exit)) r ⌝ }
 {
-    slots::mark(n, plan, work);
-    let filled = slots::fill(n, work, rows, columns);
+    let filled = fill(n, plan, work, rows, columns);
     if filled.missing != 0 {
         slots::clear(work, wide(each * (n * n)));
     }

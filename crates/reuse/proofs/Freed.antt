@@ -13,22 +13,14 @@ use lib.Seq.{getD-set-other, drop-cons, drop-at, set-split}
 use borrow.Author.Tests.{lt-ltb}
 use Rattle.model.specs.Label.{label}
 use Rattle.model.specs.Fill.{Plan, held}
-use Rattle.model.specs.Boundary.{labelNumber}
-use Rattle.model.proofs.Labels.{Inside, label-range}
+use Rattle.model.proofs.Labels.{label-range}
 use Rattle.model.proofs.Lines.{label-lower-step}
 use Rattle.model.proofs.Slots.{slot-zero}
 use Rattle.model.proofs.Lives.{lastRight}
 use Rattle.model.proofs.Renaming.{slotIn}
 use Rattle.model.proofs.Assign.{freedRow, diesAt, roomIn, rowFreed}
-use Rattle.labels.proofs.Range.{inside-isPlace, labelNumber-is}
 use Rattle.reuse.specs.Places.{Gave, givenAt, freedAlong}
 use Rattle.reuse.specs.declared.Walk.{Walk}
-
--- ---- labels
-
--- in range `labels::label` answers the label
-pub label-answered : (n i j : ℕ) → n ≤ 600 → Inside n i j → labelNumber n i j ≡ label n i j
-label-answered n i j small inside = sym (labelNumber-is n i j (inside-isPlace n i j (omega arith) inside))
 
 -- ---- one slot
 

@@ -192,7 +192,7 @@ fn index_of(n: u32, i: u32, j: u32, wanted: bool) -> usize
 }
 
 // Whether both work numbers are slots.
-fn both_used(work: &[u32], low: usize, high: usize) -> bool
+pub fn both_used(work: &[u32], low: usize, high: usize) -> bool
     requires { ⌜ (low < length (now work)) × (high < length (now work)) ⌝ }
     ensures { λ r. ⌜ r ≡ (ltb 0 (getD (now (work .entry)) low 0) && ltb 0 (getD (now (work .entry)) high 0)) ⌝ }
 {

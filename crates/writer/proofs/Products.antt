@@ -9,20 +9,14 @@ use mathlib.Core.List.{List, [], _++_}
 use lib.ListN.{length, getD}
 use Rattle.model.specs.Lists.{rising, falling, joined}
 use Rattle.model.specs.Label.{label}
-use Rattle.model.specs.Boundary.{labelNumber}
 use Rattle.model.specs.Program.{Record}
 use Rattle.model.proofs.Labels.{Inside, label-range, label-right}
 use Rattle.model.proofs.Lines.{label-lower-step, label-upper-step}
-use Rattle.labels.proofs.Range.{inside-isPlace, labelNumber-is}
 use Rattle.writer.specs.Written.{Room, Wrote, productOf}
 use Rattle.writer.specs.Worked.{numberAt, Covers, innerAt, productAt, upTo, downTo, NoneBelow}
 use Rattle.writer.proofs.Written.{Writing, writing-starts, writing-room, writing-more, writing-ends, wrote-none}
 
 -- ---- labels
-
--- in range `labels::label` answers the label
-pub label-answered : (n : ℕ) (work : List ℕ) (i j : ℕ) → Covers n work → Inside n i j → labelNumber n i j ≡ label n i j
-label-answered n work i j covers inside = sym (labelNumber-is n i j (inside-isPlace n i j (covers .low, covers .high) inside))
 
 -- x is the label of (i, j): it has a work number, and is small
 pub record Stands (n : ℕ) (work : List ℕ) (i j x : ℕ) : Type 0 where

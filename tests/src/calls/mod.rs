@@ -31,6 +31,7 @@ pub mod compile;
 pub mod file;
 pub mod labels;
 pub mod many;
+pub mod path;
 pub mod run;
 
 /// A refusal and its detail as one number.

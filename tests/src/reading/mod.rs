@@ -7,6 +7,7 @@ pub mod dense;
 pub mod file;
 pub mod labels;
 pub mod many;
+pub mod path;
 pub mod plan;
 pub mod run;
 pub mod sweep;

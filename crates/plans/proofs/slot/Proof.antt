@@ -13,12 +13,9 @@ use Rattle.plans.proofs.Wanted.{sizes, places-some, slots-left, zeros-l
 use Rattle.plans.proofs.slot.Statement.{statement}
 use Rattle.plans.proofs.slot.Tie as tie
 
--- Places of the code: where the plan is marked, with the entry before it, where the places are filled, and where a pivot is found missing or none.
-abbrev entry : tie.After-mark → tie.Start
-entry c = c .before .before .before .before .before .before
-
-abbrev marked : tie.After-fill → tie.After-mark
-marked c = c .before .before .before .before .before .before
+-- Places of the code: where the places are filled, with the entry before it, and where a pivot is found missing or none.
+abbrev entry : tie.After-fill → tie.Start
+entry c = c .before .before .before .before .before .before .before .before
 
 abbrev gone : tie.Then1 → tie.After-fill
 gone c = c .before .before .before .before .before .before .before .before
@@ -31,20 +28,14 @@ told : (c : tie.Start) → let a = c .args in
     (isOrder (a .n) ≡ true) × ((judged (a .n) 0 1 (now (a .plan)) ≡ good) × (a .each * (a .n * a .n) ≤ length (now (a .work))))
 told c = orderly-good _ _ _ _ (c .pre .0)
 
-covers : (c : tie.Start) → c .args .n * c .args .n ≤ length (now (c .args .work))
-covers c = omega (arith, told c .1 .1, places-some (c .args .each) (c .args .n) (c .pre .1 .0 .0))
-
-small : (c : tie.Then1) → let a = entry (marked (gone c)) .args in (a .n ≤ 600) × (a .n * a .n ≤ 360000) × (a .each * (a .n * a .n) ≤ 1440000)
-small c = let e = entry (marked (gone c)) in sizes (e .pre .1 .0 .1) (told e .0)
-
-mark-requires : tie.Need-mark-requires
-mark-requires c κs = let e = c .before .before .before .before .before in (told e .0, (told e .1 .0, covers e))
+small : (c : tie.Then1) → let a = entry (gone c) .args in (a .n ≤ 600) × (a .n * a .n ≤ 360000) × (a .each * (a .n * a .n) ≤ 1440000)
+small c = let e = entry (gone c) in sizes (e .pre .1 .0 .1) (told e .0)
 
 fill-requires : tie.Need-fill-requires
 fill-requires c κs =
-    let m = c .before .before .before .before .before in
-    let e = entry m in
-    (told e .0, (omega (arith, covers e, m .mark .ensures .size), e .pre .1 .1))
+    let e = c .before .before .before .before .before .before .before in
+    let t = told e in
+    ((t .0, t .1 .0), (omega (arith, t .1 .1, places-some (e .args .each) (e .args .n) (e .pre .1 .0 .0)), e .pre .1 .1))
 
 mul-wide : tie.Need-mul-wide
 mul-wide c = omega (arith, small (c .before))
@@ -58,8 +49,7 @@ wide-requires c κs = search needs
 clear-requires : tie.Need-clear-requires
 clear-requires c κs =
     let f = gone (c .before .before) in
-    let m = marked f in
-    omega (arith, c .wide .ensures, told (entry m) .1 .1, m .mark .ensures .size, f .fill .kept)
+    omega (arith, c .wide .ensures, told (entry f) .1 .1, f .fill .kept)
 
 same-length : tie.Need-same-length
 same-length c = search needs
@@ -76,8 +66,7 @@ returns c =
     let w = done .before in
     let t = w .before .before in
     let f = gone t in
-    let m = marked f in
-    zeros-left (m .mark .ensures) (f .fill .ensures) (t .if1 .taken) (entry m .pre .1 .0 .0) (w .wide .ensures) (done .clear .ensures)
+    zeros-left (f .fill .ensures) (t .if1 .taken) (entry f .pre .1 .0 .0) (w .wide .ensures) (done .clear .ensures)
 
 same-length-4 : tie.Need-same-length-4
 same-length-4 c = search needs
@@ -89,13 +78,12 @@ same-length-6 : tie.Need-same-length-6
 same-length-6 c = search needs
 
 returns-2 : tie.Need-returns-2
-returns-2 c = let f = whole c in slots-left (marked f .mark .ensures) (f .fill .ensures) (c .if1 .left)
+returns-2 c = slots-left (whole c .fill .ensures) (c .if1 .left)
 
 pub slot-spec : {M : Type 1} → statement M
 slot-spec =
     tie.close
     (tie.spec
-    mark-requires
     fill-requires
     mul-wide
     mul-wide-2

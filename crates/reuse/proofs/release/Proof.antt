@@ -6,7 +6,8 @@ use mathlib.Core.Path.{_∙_}
 use mathlib.Core.Logic.{⊎-elim}
 use lib.ListN.{length}
 use borrow.Author.Needs.{needs}
-use Rattle.reuse.proofs.Freed.{label-answered, Releasing, releasing-starts, releasing-place, dies-if-last, dies-not, releasing-more, releasing-ends}
+use Rattle.labels.proofs.Range.{label-answered}
+use Rattle.reuse.proofs.Freed.{Releasing, releasing-starts, releasing-place, dies-if-last, dies-not, releasing-more, releasing-ends}
 use Rattle.reuse.proofs.release.Statement.{statement}
 use Rattle.reuse.proofs.release.Tie as tie
 

@@ -1,10 +1,10 @@
 -- `slots::index_of` gives the index of a place that is wanted.
 use Prim.Native.Nat.{ℕ, _≤_}
 use native.Mathlib.Omega.{arith}
-use mathlib.Core.Path.{_≡_, sym, _∙_}
+use mathlib.Core.Path.{_≡_, _∙_}
 use Rattle.model.specs.Label.{label}
 use Rattle.model.proofs.Labels.{label-range}
-use Rattle.labels.proofs.Range.{inside-isPlace, labelNumber-is}
+use Rattle.labels.proofs.Range.{label-answered}
 use borrow.Author.Needs.{needs}
 use Rattle.slots.proofs.index_of.Statement.{statement}
 use Rattle.slots.proofs.index_of.Tie as tie
@@ -16,7 +16,7 @@ labelled : (c : tie.After-label) → let a = c .before .before .args in (c .labe
 labelled c =
     let order = c .before .before .pre .0 in
     let inside = c .before .before .pre .1 (c .before .if1 .taken) in
-    let e = c .label .ensures ∙ sym (labelNumber-is _ _ _ (inside-isPlace _ _ _ order inside)) in
+    let e = c .label .ensures ∙ label-answered _ _ _ (order .1) inside in
     omega (arith, label-range _ _ _ inside)
 
 sub-wide : tie.Need-sub-wide

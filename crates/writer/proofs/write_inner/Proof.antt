@@ -6,8 +6,9 @@ use mathlib.Core.Path.{_≡_, _∙_}
 use borrow.Author.Needs.{needs}
 use denote.Ref.{now}
 use Rattle.model.specs.Label.{label}
+use Rattle.labels.proofs.Range.{label-answered}
 use Rattle.writer.specs.Worked.{innerAt}
-use Rattle.writer.proofs.Products.{label-answered, Stands, stands, inner-at, label-across, label-downward}
+use Rattle.writer.proofs.Products.{Stands, stands, inner-at, label-across, label-downward}
 use Rattle.writer.proofs.Products.{Rising, rising-skips, rising-room, rising-more, rising-ends}
 use Rattle.writer.proofs.Written.{wrote-length}
 use Rattle.writer.proofs.write_inner.Statement.{statement}
@@ -54,8 +55,8 @@ loop-holds c =
     let p = lowest .before .before .before .before .pre in (
       lowest .before .smaller .ensures,
       rw (lowest .larger .ensures) (rising-skips _ (p .1 .1 .0) (p .1 .1 .1)),
-      (λ below. c .before .before .wide .ensures ∙ (c .before .before .before .label .ensures ∙ label-answered _ _ _ _ (p .0) (omega arith))),
-      λ below. c .wide2 .ensures ∙ (c .before .label2 .ensures ∙ label-answered _ _ _ _ (p .0) (omega arith)),
+      (λ below. c .before .before .wide .ensures ∙ (c .before .before .before .label .ensures ∙ label-answered _ _ _ (p .0 .high) (omega arith))),
+      λ below. c .wide2 .ensures ∙ (c .before .label2 .ensures ∙ label-answered _ _ _ (p .0 .high) (omega arith)),
     )
 
 row : (c : Turn) → let a = entry (c .before) .args in let l = c .before .loop in Stands (a .n) (now (a .work)) (a .i) (l .h) (l .across)

@@ -6,8 +6,9 @@ use mathlib.Core.Path.{_≡_, _∙_}
 use borrow.Author.Needs.{needs}
 use denote.Ref.{now}
 use Rattle.model.specs.Label.{label}
+use Rattle.labels.proofs.Range.{label-answered}
 use Rattle.writer.specs.Worked.{productAt}
-use Rattle.writer.proofs.Products.{label-answered, Stands, stands, product-at, label-across}
+use Rattle.writer.proofs.Products.{Stands, stands, product-at, label-across}
 use Rattle.writer.proofs.Products.{Rising, rising-skips, rising-room, rising-more, rising-ends}
 use Rattle.writer.proofs.Written.{wrote-length}
 use Rattle.writer.proofs.write_left.Statement.{statement}
@@ -43,7 +44,7 @@ loop-holds : tie.Need-loop-holds Inv-loop μ-loop
 loop-holds c =
     let start = c .before .before .before .before .before in (
       rw (c .before .before .larger .ensures) (rising-skips _ (start .pre .1 .1 .0) (start .pre .1 .1 .1)),
-      λ below. c .wide .ensures ∙ (c .before .label .ensures ∙ label-answered _ _ _ _ (start .pre .0) (omega arith)),
+      λ below. c .wide .ensures ∙ (c .before .label .ensures ∙ label-answered _ _ _ (start .pre .0 .high) (omega arith)),
     )
 
 here : (c : Turn) → let a = entry (c .before) .args in let l = c .before .loop in Stands (a .n) (now (a .work)) (a .m) (l .h) (l .across)

@@ -5,8 +5,9 @@ use mathlib.Core.Path.{_≡_, _∙_}
 use denote.Ref.{now}
 use borrow.Author.Needs.{needs}
 use Rattle.model.specs.Label.{label}
+use Rattle.labels.proofs.Range.{label-answered}
 use Rattle.writer.specs.Worked.{productAt}
-use Rattle.writer.proofs.Products.{label-answered, Stands, stands, product-at, label-left}
+use Rattle.writer.proofs.Products.{Stands, stands, product-at, label-left}
 use Rattle.writer.proofs.Products.{Falling, falling-starts, falling-room, falling-more, falling-ends}
 use Rattle.writer.proofs.Written.{wrote-length}
 use Rattle.writer.proofs.write_right.Statement.{statement}
@@ -39,7 +40,7 @@ loop-holds : tie.Need-loop-holds Inv-loop μ-loop
 loop-holds c =
     let start = c .before .before .before .before in (
       falling-starts (omega arith) (start .pre .1 .1),
-      λ above. c .wide .ensures ∙ (c .before .label .ensures ∙ label-answered _ _ _ _ (start .pre .0) (omega arith)),
+      λ above. c .wide .ensures ∙ (c .before .label .ensures ∙ label-answered _ _ _ (start .pre .0 .high) (omega arith)),
     )
 
 here : (c : Turn) → let a = entry (c .before) .args in let l = c .before .loop in Stands (a .n) (now (a .work)) (a .i) (l .h) (l .across)

@@ -7,8 +7,9 @@ use mathlib.Core.Path.{_≡_, _∙_}
 use denote.Ref.{now}
 use borrow.Author.Needs.{needs}
 use Rattle.model.specs.Label.{label}
+use Rattle.labels.proofs.Range.{label-answered}
 use Rattle.writer.specs.Worked.{productAt}
-use Rattle.writer.proofs.Products.{label-answered, Stands, stands, product-at}
+use Rattle.writer.proofs.Products.{Stands, stands, product-at}
 use Rattle.writer.proofs.Products.{Rising, rising-starts, rising-room, rising-more, rising-ends}
 use Rattle.writer.proofs.Sweep.{label-right-of, label-onward}
 use Rattle.writer.proofs.Written.{wrote-length}
@@ -37,7 +38,7 @@ diagonal : (c : tie.After-wide Inv-loop μ-loop) → let a = c .before .before .
     Stands (a .n) (now (a .work)) (a .r) (a .r) (c .wide .result)
 diagonal c =
     let pre = c .before .before .before .before .pre in
-    stands (pre .0) (pre .1 .0) (c .wide .ensures ∙ (c .before .label .ensures ∙ label-answered _ _ _ _ (pre .0) (pre .1 .0)))
+    stands (pre .0) (pre .1 .0) (c .wide .ensures ∙ (c .before .label .ensures ∙ label-answered _ _ _ (pre .0 .high) (pre .1 .0)))
 
 add-j : tie.Need-add-j Inv-loop μ-loop
 add-j c = search needs

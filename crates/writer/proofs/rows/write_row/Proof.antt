@@ -3,9 +3,10 @@ use native.Mathlib.Omega.{arith}
 use mathlib.Core.Path.{sym, _∙_}
 use denote.Ref.{now}
 use borrow.Author.Needs.{needs}
+use Rattle.labels.proofs.Range.{label-answered}
 use Rattle.writer.proofs.Written.{first-room, second-room, third-room, fourth-room, parts-written}
 use Rattle.writer.proofs.Formulas.{row-parts}
-use Rattle.writer.proofs.Products.{label-answered, Stands, stands, number-at}
+use Rattle.writer.proofs.Products.{Stands, stands, number-at}
 use Rattle.writer.proofs.rows.write_row.Statement.{statement}
 use Rattle.writer.proofs.rows.write_row.Tie as tie
 
@@ -29,7 +30,7 @@ divided c = c .before .before .before
 diagonal : (c : tie.After-wide) → let a = entry c .args in Stands (a .n) (now (a .work)) (a .r) (a .r) (c .wide .result)
 diagonal c =
     let p = entry c .pre in
-    stands (p .0) (p .1 .0) (c .wide .ensures ∙ (c .before .label .ensures ∙ label-answered _ _ _ _ (p .0) (p .1 .0)))
+    stands (p .0) (p .1 .0) (c .wide .ensures ∙ (c .before .label .ensures ∙ label-answered _ _ _ (p .0 .high) (p .1 .0)))
 
 label-requires : tie.Need-label-requires
 label-requires c κs = search needs

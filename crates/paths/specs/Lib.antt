@@ -1,0 +1,3 @@
+-- What the contracts of `paths` cite.
+pub mod Traced
+pub mod Trail
