@@ -6,7 +6,7 @@ use mathlib.Core.Bool.{Bool, true, false, _&&_, and-false, and-eq-true-iff}
 use Rattle.model.specs.Label.{isOrder, isPlace, isLabel, within, label, place, Sought, at, outside, sought}
 use Rattle.model.specs.Boundary.{labelNumber}
 use Rattle.model.proofs.Within.{within-range, range-within}
-use Rattle.model.proofs.Labels.{Inside, place-range}
+use Rattle.model.proofs.Labels.{Inside, place-inside, place-range}
 
 abbrev Within : ℕ → ℕ → Type 0
 Within k n = (0 < k) × (k ≤ n)
@@ -25,11 +25,7 @@ module _ (N i j : ℕ) where
   isPlace-is order row column = ap₂ _&&_ order (ap₂ _&&_ row column)
 
   pub isPlace-true : true ≡ isPlace N i j → Within N 600 × Inside N i j
-  unfolding isPlace
-  isPlace-true e =
-      let both = and-eq-true-iff (isOrder N) (within i N && within j N) .0 (sym e) in
-      let inner = and-eq-true-iff (within i N) (within j N) .0 (both .1) in
-      omega (arith, within-range N 600 (both .0), within-range i N (inner .0), within-range j N (inner .1))
+  isPlace-true e = place-inside N i j (sym e)
 
   inside-isPlace : Within N 600 → Inside N i j → true ≡ isPlace N i j
   inside-isPlace order inside = isPlace-is (within-is N 600 order) (within-is i N (omega arith)) (within-is j N (omega arith))

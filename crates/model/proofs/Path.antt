@@ -33,6 +33,35 @@ module _ (N : ℕ) (L : Plan) where
       let c = within-range j N (b .0) in
       record { row-low = r .0; row-high = r .1; column-low = c .0; column-high = c .1; there = ltb-true 0 (position L (label N i j)) (b .1) }
 
+  -- ---- the entries of a list that leads to j
+
+  pub empty : {X : Type 0} (b j a : ℕ) → leads N L b j a [] ≡ true → X
+  unfolding leads
+  empty b j a p = let z : _≡_ {A = ℕ} 0 1 = cc in absurd (omega arith)
+
+  pub record Ends (j a e : ℕ) : Type 0 where
+    pub here : e ≡ j
+    pub step : inPlan N L a e ≡ true
+
+  pub ends : (b j a e : ℕ) → leads N L b j a (e ∷ []) ≡ true → Ends j a e
+  unfolding leads
+  ends b j a e p = let s = and-eq-true-iff (eqb e j) (inPlan N L a e) .0 p in record { here = eqb-true e j (s .0); step = s .1 }
+
+  pub record Led (b j a e : ℕ) (es : List ℕ) : Type 0 where
+    pub below : e < b
+    pub low : 1 ≤ e
+    pub step : inPlan N L a e ≡ true
+    pub rest : leads N L b j e es ≡ true
+
+  pub led : (b j a e f : ℕ) (es : List ℕ) → leads N L b j a (e ∷ f ∷ es) ≡ true → Led b j a e (f ∷ es)
+  unfolding leads
+  led b j a e f es p =
+      let s = and-eq-true-iff (ltb e b) (inPlan N L a e && leads N L b j e (f ∷ es)) .0 p in
+      let t = and-eq-true-iff (inPlan N L a e) (leads N L b j e (f ∷ es)) .0 (s .1) in
+      record { below = ltb-true e b (s .0); low = planned a e (t .0) .column-low; step = t .0; rest = t .1 }
+
+  -- ---- ways
+
   -- from a to j by places of the plan, all entries between in 1..k
   abbrev pub Through : ℕ → ℕ → ℕ → Type 0
   Through zero a j = inPlan N L a j ≡ true
@@ -75,16 +104,11 @@ module _ (N : ℕ) (L : Plan) where
       rw (held-is N L a j, pair) (or-true (ltb 0 (position L (label N a j))))
 
   pub leads-through : (b j a : ℕ) (es : List ℕ) → leads N L b j a es ≡ true → Through (b - 1) a j
-  unfolding leads
-  leads-through b j a [] e = let z : _≡_ {A = ℕ} 0 1 = cc in absurd (omega arith)
-  leads-through b j a (c ∷ []) e =
-      let s = and-eq-true-iff (eqb c j) (inPlan N L a c) .0 e in
-      direct (b - 1) a j (rw (eqb-true c j (s .0)) at (s .1))
-  leads-through b j a (c ∷ d ∷ es) e =
-      let s = and-eq-true-iff (ltb c b) (inPlan N L a c && leads N L b j c (d ∷ es)) .0 e in
-      let t = and-eq-true-iff (inPlan N L a c) (leads N L b j c (d ∷ es)) .0 (s .1) in
-      let below = ltb-true c b (s .0) in
-      join (b - 1) c a j (planned a c (t .0) .column-low) (omega arith) (direct (b - 1) a c (t .0)) (leads-through b j c (d ∷ es) (t .1))
+  leads-through b j a [] p = empty b j a p
+  leads-through b j a (e ∷ []) p = let s = ends b j a e p in direct (b - 1) a j (rw (s .here) at (s .step))
+  leads-through b j a (e ∷ f ∷ es) p =
+      let s = led b j a e f es p in
+      join (b - 1) e a j (s .low) (omega (arith, s .below)) (direct (b - 1) a e (s .step)) (leads-through b j e (f ∷ es) (s .rest))
 
   -- The headline: a list that passes makes the place held.
   pub path-held : (i j : ℕ) → 1 ≤ i → 1 ≤ j → (es : List ℕ) → isPath N L i j es ≡ true → held N L i j ≡ true

@@ -6,20 +6,20 @@ use mathlib.Core.List.{List, [], _∷_, _++_}
 use mathlib.Core.Logic.{_⊎_, inl, inr, ⊎-elim}
 use native.Mathlib.Nat.{le-suc-iff}
 use native.Mathlib.Omega.{arith}
-use borrow.Author.Tests.{ltb-true, lt-ltb, eqb-true, eq-eqb, ne-eqb, not-true}
+use borrow.Author.Tests.{lt-ltb, eqb-true, eq-eqb, ne-eqb, not-true}
 use lib.Dec.{ltb, eqb}
 use lib.ListN.{length}
 use Rattle.model.specs.Lists.{some, count}
-use Rattle.model.specs.Label.{isOrder, within, isPlace, label}
+use Rattle.model.specs.Label.{label}
 use Rattle.model.specs.Fill.{Plan, inPlan, position, held}
 use Rattle.model.specs.Route.{smallest, middle, legWithin, leg, route}
 use Rattle.model.specs.Path.{named, leads, distinct, isPath, PathExactlyHeld, PathFits}
 use Rattle.model.proofs.Search.{some-none, count-same}
 use Rattle.model.proofs.Sums.{count-at-most, count-none}
-use Rattle.model.proofs.Within.{within-range, range-within}
-use Rattle.model.proofs.Labels.{Inside}
+use Rattle.model.proofs.Within.{range-within}
+use Rattle.model.proofs.Labels.{Inside, place-inside}
 use Rattle.model.proofs.Fill.{held-is}
-use Rattle.model.proofs.Path.{Through, direct, join, through-held, leads-through, planned, path-held}
+use Rattle.model.proofs.Path.{planned, empty, ends, led, Through, direct, join, through-held, leads-through, path-held}
 
 -- ---- the smallest number that passes
 
@@ -61,7 +61,7 @@ or-cases : (a b : Bool) → (a || b) ≡ true → (a ≡ true) ⊎ (b ≡ true)
 or-cases true b e = inl refl
 or-cases false b e = inr e
 
-pub named-cases : (x e : ℕ) (es : List ℕ) → named x (e ∷ es) ≡ true → (x ≡ e) ⊎ (named x es ≡ true)
+named-cases : (x e : ℕ) (es : List ℕ) → named x (e ∷ es) ≡ true → (x ≡ e) ⊎ (named x es ≡ true)
 unfolding named
 named-cases x e es p = ⊎-elim (λ q. inl (sym (eqb-true e x q))) inr (or-cases (eqb e x) (named x es) p)
 
@@ -74,11 +74,11 @@ named-append x (e ∷ xs) ys = step (eqb e x) (named-append x xs ys)
     step true p = refl
     step false p = p
 
-pub named-here : (x : ℕ) (es : List ℕ) → named x (x ∷ es) ≡ true
+named-here : (x : ℕ) (es : List ℕ) → named x (x ∷ es) ≡ true
 unfolding named
 named-here x es = rw (eq-eqb x x refl)
 
-pub named-later : (x e : ℕ) (es : List ℕ) → named x es ≡ true → named x (e ∷ es) ≡ true
+named-later : (x e : ℕ) (es : List ℕ) → named x es ≡ true → named x (e ∷ es) ≡ true
 unfolding named
 named-later x e es p = step (eqb e x)
   where
@@ -101,80 +101,55 @@ distinct-append (e ∷ xs) ys p q apart =
 module _ (N : ℕ) (L : Plan) where
   -- ---- the entries of a way
 
-  record Led (b j a e : ℕ) (es : List ℕ) : Type 0 where
-    below : e < b
-    low : 1 ≤ e
-    step : inPlan N L a e ≡ true
-    rest : leads N L b j e es ≡ true
-
-  led : (b j a e f : ℕ) (es : List ℕ) → leads N L b j a (e ∷ f ∷ es) ≡ true → Led b j a e (f ∷ es)
-  unfolding leads
-  led b j a e f es p =
-      let s = and-eq-true-iff (ltb e b) (inPlan N L a e && leads N L b j e (f ∷ es)) .0 p in
-      let t = and-eq-true-iff (inPlan N L a e) (leads N L b j e (f ∷ es)) .0 (s .1) in
-      record { below = ltb-true e b (s .0); low = planned N L a e (t .0) .column-low; step = t .0; rest = t .1 }
-
-  record Ends (j a e : ℕ) : Type 0 where
-    here : e ≡ j
-    step : inPlan N L a e ≡ true
-
-  ends : (b j a e : ℕ) → leads N L b j a (e ∷ []) ≡ true → Ends j a e
-  unfolding leads
-  ends b j a e p = let s = and-eq-true-iff (eqb e j) (inPlan N L a e) .0 p in record { here = eqb-true e j (s .0); step = s .1 }
-
-  empty : {X : Type 0} (b j a : ℕ) → leads N L b j a [] ≡ true → X
-  unfolding leads
-  empty b j a p = let z : _≡_ {A = ℕ} 0 1 = cc in absurd (omega arith)
-
   unnamed : {X : Type 0} (x : ℕ) → named x [] ≡ true → X
   unfolding named
   unnamed x p = let z : _≡_ {A = ℕ} 0 1 = cc in absurd (omega arith)
 
   -- an entry is the end, or it is at least 1 and below b
   inside : (b j a x : ℕ) (es : List ℕ) → leads N L b j a es ≡ true → named x es ≡ true → (x ≡ j) ⊎ ((1 ≤ x) × (x < b))
-  inside b j a x [] p n = empty b j a p
-  inside b j a x (e ∷ []) p n = ⊎-elim (λ q. inl (omega (arith, ends b j a e p .here))) (unnamed x) (named-cases x e [] n)
+  inside b j a x [] p n = empty N L b j a p
+  inside b j a x (e ∷ []) p n = ⊎-elim (λ q. inl (omega (arith, ends N L b j a e p .here))) (unnamed x) (named-cases x e [] n)
   inside b j a x (e ∷ f ∷ es) p n =
-      let s = led b j a e f es p in
+      let s = led N L b j a e f es p in
       ⊎-elim (λ q. inr (omega (arith, s .low), omega (arith, s .below))) (λ q. inside b j e x (f ∷ es) (s .rest) q) (named-cases x e (f ∷ es) n)
 
   -- and every entry is a number of the table
-  pub entered : (b j a x : ℕ) (es : List ℕ) → leads N L b j a es ≡ true → named x es ≡ true → (1 ≤ x) × (x ≤ N)
-  entered b j a x [] p n = empty b j a p
+  entered : (b j a x : ℕ) (es : List ℕ) → leads N L b j a es ≡ true → named x es ≡ true → (1 ≤ x) × (x ≤ N)
+  entered b j a x [] p n = empty N L b j a p
   entered b j a x (e ∷ []) p n =
-      let s = planned N L a e (ends b j a e p .step) in
+      let s = planned N L a e (ends N L b j a e p .step) in
       ⊎-elim (λ q. rw q (s .column-low, s .column-high)) (unnamed x) (named-cases x e [] n)
   entered b j a x (e ∷ f ∷ es) p n =
-      let s = led b j a e f es p in
+      let s = led N L b j a e f es p in
       let t = planned N L a e (s .step) in
       ⊎-elim (λ q. rw q (t .column-low, t .column-high)) (λ q. entered b j e x (f ∷ es) (s .rest) q) (named-cases x e (f ∷ es) n)
 
   -- the way up to an entry, and from one that is not the end
   up-to : (b j a x : ℕ) (es : List ℕ) → leads N L b j a es ≡ true → named x es ≡ true → Through N L (b - 1) a x
-  up-to b j a x [] p n = empty b j a p
-  up-to b j a x (e ∷ []) p n = ⊎-elim (λ q. rw q (direct N L (b - 1) a e (ends b j a e p .step))) (unnamed x) (named-cases x e [] n)
+  up-to b j a x [] p n = empty N L b j a p
+  up-to b j a x (e ∷ []) p n = ⊎-elim (λ q. rw q (direct N L (b - 1) a e (ends N L b j a e p .step))) (unnamed x) (named-cases x e [] n)
   up-to b j a x (e ∷ f ∷ es) p n =
-      let s = led b j a e f es p in
+      let s = led N L b j a e f es p in
       ⊎-elim (λ q. rw q (direct N L (b - 1) a e (s .step)))
       (λ q. join N L (b - 1) e a x (s .low) (omega (arith, s .below)) (direct N L (b - 1) a e (s .step)) (up-to b j e x (f ∷ es) (s .rest) q))
       (named-cases x e (f ∷ es) n)
 
   onward : (b j a x : ℕ) (es : List ℕ) → leads N L b j a es ≡ true → named x es ≡ true → (x ≡ j → ⊥) → Through N L (b - 1) x j
-  onward b j a x [] p n ne = empty b j a p
-  onward b j a x (e ∷ []) p n ne = ⊎-elim (λ q. absurd (ne (omega (arith, ends b j a e p .here)))) (unnamed x) (named-cases x e [] n)
+  onward b j a x [] p n ne = empty N L b j a p
+  onward b j a x (e ∷ []) p n ne = ⊎-elim (λ q. absurd (ne (omega (arith, ends N L b j a e p .here)))) (unnamed x) (named-cases x e [] n)
   onward b j a x (e ∷ f ∷ es) p n ne =
-      let s = led b j a e f es p in
+      let s = led N L b j a e f es p in
       ⊎-elim (λ q. rw q (leads-through N L b j e (f ∷ es) (s .rest))) (λ q. onward b j e x (f ∷ es) (s .rest) q ne) (named-cases x e (f ∷ es) n)
 
   leads-append : (b h j a : ℕ) (xs ys : List ℕ) → h < b → leads N L b h a xs ≡ true → leads N L b j h ys ≡ true → leads N L b j a (xs ++ ys) ≡ true
   unfolding leads
-  leads-append b h j a [] ys l p q = empty b h a p
-  leads-append b h j a (e ∷ []) [] l p q = empty b j h q
+  leads-append b h j a [] ys l p q = empty N L b h a p
+  leads-append b h j a (e ∷ []) [] l p q = empty N L b j h q
   leads-append b h j a (e ∷ []) (y ∷ ys) l p q =
-      let s = ends b h a e p in
+      let s = ends N L b h a e p in
       rw (s .step, lt-ltb e b (omega (arith, s .here)), s .here) q
   leads-append b h j a (e ∷ f ∷ xs) ys l p q =
-      let s = led b h a e f xs p in
+      let s = led N L b h a e f xs p in
       rw (s .step, lt-ltb e b (s .below)) (leads-append b h j e (f ∷ xs) ys l (s .rest) q)
 
   -- ---- the smallest h
@@ -287,7 +262,7 @@ module _ (N : ℕ) (L : Plan) where
   -- ---- leg by leg
 
   leads-some : (b j a : ℕ) (es : List ℕ) → leads N L b j a es ≡ true → 1 ≤ length es
-  leads-some b j a [] p = empty b j a p
+  leads-some b j a [] p = empty N L b j a p
   leads-some b j a (e ∷ es) p = omega arith
 
   -- a leg has an entry
@@ -340,7 +315,7 @@ one-more t u e (suc n) same p q low high = ⊎-elim
     step false = refl
 
 -- as many numbers of 1..n are named as there are entries, where these are all different and in 1..n
-pub named-count : (n : ℕ) (es : List ℕ) → distinct es ≡ true → ((x : ℕ) → named x es ≡ true → (1 ≤ x) × (x ≤ n)) → count (λ k. named k es) n ≡ length es
+named-count : (n : ℕ) (es : List ℕ) → distinct es ≡ true → ((x : ℕ) → named x es ≡ true → (1 ≤ x) × (x ≤ n)) → count (λ k. named k es) n ≡ length es
 unfolding distinct named
 named-count n [] d inside = count-none (λ k. false) n (λ k low high. refl)
 named-count n (e ∷ es) d inside =
@@ -359,19 +334,10 @@ path-fits N L i j (e ∷ es) p =
     let t = and-eq-true-iff (leads N L (min i j) j i es) (distinct es) .0 (s .1) in
     omega (arith, named-count N es (t .1) (λ x m. entered N L (min i j) j i x es (t .0) m), count-at-most (λ k. named k es) N)
 
-place-inside : (N i j : ℕ) → isPlace N i j ≡ true → Inside N i j
-unfolding isPlace
-place-inside N i j e =
-    let s = and-eq-true-iff (isOrder N) (within i N && within j N) .0 e in
-    let t = and-eq-true-iff (within i N) (within j N) .0 (s .1) in
-    let r = within-range i N (t .0) in
-    let c = within-range j N (t .1) in
-    record { row-low = r .0; row-high = r .1; column-low = c .0; column-high = c .1 }
-
 -- and there is one exactly when the place is held.
 pub path-exactly-held : (N : ℕ) (L : Plan) (i j : ℕ) → PathExactlyHeld N L i j
 path-exactly-held N L i j there =
-    let s = place-inside N i j there in (
+    let s = place-inside N i j there .1 in (
       λ p. path-held N L i j (s .row-low) (s .column-low) (p .entries) (p .path),
       λ h. record { entries = route N L i j; path = held-path N L i j s h },
     )
