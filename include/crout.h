@@ -188,6 +188,11 @@ uint64_t crout_compare(uint32_t n, const uint32_t *plan, size_t plan_len, uint32
 uint64_t crout_fill_path(uint32_t n, const uint32_t *plan, size_t plan_len, uint32_t i, uint32_t j, uint32_t *work, size_t work_len,
                          uint32_t *list, size_t list_len, uint64_t out[3]);
 
+/* Whether a plan of order n costs as many products as a full table, n (n - 1)(2 n - 1) / 6 + n (n - 1) of them: 1 if it does, 0 if not. No
+   plan of the order has more, and one that is accepted has as many exactly when its first row and its first column are whole. work is at
+   least n * n numbers: 1 to 4 leave it unchanged, after 5 its first n * n numbers are 0, else they are the plan's slots. Refusals 1 to 5. */
+uint64_t crout_costs_most(uint32_t n, const uint32_t *plan, size_t plan_len, uint32_t *work, size_t work_len);
+
 /* Writes words as a program file. out: bytes written, 0, 0. Refusals 7 and 19. */
 uint64_t crout_write(const uint32_t *words, size_t words_len, uint8_t *bytes, size_t bytes_len, uint64_t out[3]);
 

@@ -2,7 +2,7 @@
    with a message and status 1.
 
    GROUPS says how many groups of functions the library has: 1 labels, 2 compile, 3 check, write and read, 4 run and solve, 5 run many
-   right sides, 6 compare a program with a plan, 7 show a path. */
+   right sides, 6 compare a program with a plan, 7 show a path, 8 tell whether a plan costs most. */
 #include "crout.h"
 
 #include <stdio.h>
@@ -10,7 +10,7 @@
 #include <string.h>
 
 #ifndef GROUPS
-#define GROUPS 7
+#define GROUPS 8
 #endif
 
 #define COUNT(row) (sizeof(row) / sizeof((row)[0]))
@@ -555,6 +555,30 @@ static void paths_refused(void) {
 }
 
 #endif
+#if GROUPS >= 8
+
+/* What the call returns for a plan of order 2, with the work numbers full of sevens before it. */
+static uint64_t costed(uint32_t n, const uint32_t *plan, size_t plan_len, size_t work_len) {
+    size_t k;
+    for (k = 0; k < COUNT(work); k++)
+        work[k] = 7;
+    return crout_costs_most(n, plan, plan_len, work, work_len);
+}
+
+static void costs(void) {
+    const uint32_t all[] = {1, 2, 3, 4}, sparse[] = {1, 2, 4}, no_pivot[] = {2, 3}, twice[] = {1, 1}, five[] = {5};
+    expect(costed(2, all, 4, 5) == 1 && work_is(1, 2, 3, 4), "a full table");
+    expect(costed(2, all, 3, 5) == 1 && work_is(1, 2, 3, 4), "D1 and D4, the first row and column");
+    expect(costed(2, sparse, 3, 5) == 0 && work_is(1, 2, 0, 3), "D1, a place of the first row left out");
+    expect(costed(1, all, 1, 1) == 1, "D1, order 1");
+    expect(costed(2, no_pivot, 2, 5) == refusal(5, 1) && work_is(0, 0, 0, 0), "D2 and D4, without the first pivot");
+    expect(costed(0, all, 0, 5) == refusal(1, 0) && work_is(7, 7, 7, 7), "1 of what a plan costs");
+    expect(costed(2, five, 1, 3) == refusal(2, 4) && work_is(7, 7, 7, 7), "2 before 3");
+    expect(costed(2, five, 1, 5) == refusal(3, 1) && work_is(7, 7, 7, 7), "3 before 5");
+    expect(costed(2, twice, 2, 5) == refusal(4, 2) && work_is(7, 7, 7, 7), "4 before 5");
+}
+
+#endif
 
 int main(void) {
     labels();
@@ -588,6 +612,9 @@ int main(void) {
 #if GROUPS >= 7
     paths();
     paths_refused();
+#endif
+#if GROUPS >= 8
+    costs();
 #endif
     return 0;
 }

@@ -1,7 +1,6 @@
-// The functions exported for C: document 01, "The C boundary"; document 02, A.1, A.2, A.6, A.7, A.10 and A.11. The header is include/crout.h.
-mod answers;
-
+// The functions exported for C: document 01, "The C boundary"; document 02, A.1, A.2, A.6, A.7, A.10, A.11 and A.14. The header is include/crout.h.
 use answers::compile_answer;
+use answers::costs_answer;
 use answers::file_answer;
 use answers::limit_answer;
 use answers::path_answer;
@@ -16,6 +15,7 @@ ghost use Rattle.model.specs.Compile.{wordsAfter as Compile·wordsAfter};
 ghost use Rattle.model.specs.Check.{word};
 ghost use Rattle.model.specs.Compare.{compares, workCompared};
 ghost use Rattle.model.specs.Path.{tracing, workTraced};
+ghost use Rattle.model.specs.Dearest.{costs, workCosted};
 ghost use Rattle.model.specs.Formula.{C, Y, X};
 ghost use Rattle.model.specs.Many.{ranMany, verdict, replies, leavesMany};
 ghost use Rattle.model.specs.Run.{ran, reply, leaves};
@@ -23,7 +23,7 @@ ghost use Rattle.model.specs.Solve.{solving, replied, leftIn};
 ghost use Rattle.model.specs.File.{writes, reads, bytesAfter, wordsAfter};
 ghost use Rattle.model.specs.Boundary.{labelNumber, placeNumber, checkNumber, verdictNumber, manyNumbers};
 ghost use Rattle.model.specs.Boundary.{compiledNumber, compiledNumbers, filedNumber, filedNumbers};
-ghost use Rattle.model.specs.Boundary.{replyNumber, replyNumbers, limitNumbers, Told};
+ghost use Rattle.model.specs.Boundary.{replyNumber, replyNumbers, limitNumbers, Told, costsNumber};
 
 // The label of (i, j) in a table of order n; 0 if any of the three is out of range.
 #[no_mangle]
@@ -131,6 +131,15 @@ pub extern "C" fn crout_fill_path(
     ensures path { λ r. ⌜ Told n (now (plan .entry)) i j (length (now (work .entry))) (now (list .entry)) (now (list .exit)) (now (out .exit)) ⌝ }
 {
     path_answer(paths::fill_path(n, plan, i, j, work, list), out)
+}
+
+// Whether a plan of order n costs as many products as a full table: 1 if it does, 0 if not. 1 to 5 of the plan.
+#[no_mangle]
+pub extern "C" fn crout_costs_most(n: u32, plan: &[u32], work: &mut [u32]) -> u64
+    ensures answer { λ r. ⌜ r ≡ costsNumber (costs n (now (plan .entry)) (length (now (work .entry)))) ⌝ }
+    ensures work { λ r. ⌜ now (work .exit) ≡ workCosted n (now (plan .entry)) (now (work .entry)) ⌝ }
+{
+    costs_answer(costs::costs_most(n, plan, work))
 }
 
 // Writes words as a program file. out: the bytes written.

@@ -4,14 +4,14 @@ use native.Mathlib.Omega.{arith}
 use native.Mathlib.Decide.{decLe}
 use mathlib.Core.Path.{_≡_, refl, sym, _∙_}
 use mathlib.Core.Bool.{Bool, true, false, cond, _&&_, _||_, true≢false}
-use mathlib.Core.List.{List, [], _∷_, map}
 use borrow.Author.Tests.{lt-ltb, ltb-true}
 use lib.Dec.{ltb}
 use lib.ListN.{length}
-use Rattle.model.specs.Lists.{kept, some, count, total}
+use Rattle.model.specs.Lists.{kept, some, count}
 use Rattle.model.specs.Label.{Place, label, places}
 use Rattle.model.specs.Fill.{Plan, position, heldWithin, held, heldPlaces, missing, pairsAt, below, above, productCount}
 use Rattle.model.proofs.Plans.{pivot-held, missing-free}
+use Rattle.model.proofs.Sums.{total-grows}
 use Rattle.model.proofs.Counts.{held-total}
 
 -- what passes the first test passes the second
@@ -49,11 +49,6 @@ count-grows t u grows (suc n) = go (t (suc n)) (u (suc n)) (grows (suc n)) (coun
     go true false f h = absurd (true≢false (sym (f refl)))
     go false true f h = omega arith
     go false false f h = h
-
-total-grows : {A : Type 0} (v w : A → ℕ) → ((x : A) → v x ≤ w x) → (l : List A) → total (map v l) ≤ total (map w l)
-unfolding total
-total-grows v w grows [] = omega arith
-total-grows v w grows (x ∷ l) = omega (arith, grows x, total-grows v w grows l)
 
 module _ (N : ℕ) (L M : Plan) (all : (k : ℕ) → 0 < position L k → 0 < position M k) where
   planned-grows : (k : ℕ) → Grows (ltb 0 (position L k)) (ltb 0 (position M k))

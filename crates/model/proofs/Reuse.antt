@@ -12,7 +12,7 @@ use Rattle.model.specs.Lists.{kept, count}
 use Rattle.model.specs.Compact.{pushed, released}
 use Rattle.model.proofs.Within.{both-true}
 use Rattle.model.proofs.Search.{count-same}
-use Rattle.model.proofs.Sums.{count-none}
+use Rattle.model.proofs.Sums.{count-none, count-all}
 
 -- ---- counting
 
@@ -43,11 +43,6 @@ tally-all : (ks : List ℕ) → tally (λ k. true) ks ≡ length ks
 unfolding kept
 tally-all [] = refl
 tally-all (k ∷ ks) = ap suc (tally-all ks)
-
-count-all : (n : ℕ) → count (λ k. true) n ≡ n
-unfolding count
-count-all zero = refl
-count-all (suc n) = ap suc (count-all n)
 
 -- one that passes is counted, and so are two
 count-found : (t : ℕ → Bool) (n j : ℕ) → 1 ≤ j → j ≤ n → t j ≡ true → 1 ≤ count t n
@@ -121,7 +116,9 @@ pub record Whole (t : ℕ → Bool) (slot : ℕ → ℕ) (h : ℕ) (free : List 
 module _ {t : ℕ → Bool} {slot : ℕ → ℕ} {h : ℕ} {free : List ℕ} {made : ℕ} (whole : Whole t slot h free made) where
   -- there are as many as were made
   pub whole-length : length free + count t h ≡ made
-  whole-length = omega (arith, whole .each (λ k. true), tally-all free, count-all made, count-same (λ j. t j && true) t h (λ j low high. and-true (t j)))
+  whole-length =
+      let needed = count-same (λ j. t j && true) t h (λ j low high. and-true (t j)) in
+      omega (arith, whole .each (λ k. true), tally-all free, count-all (λ k. true) made (λ k low high. refl), needed)
 
   -- the slot of one that is needed lies in 1..made
   pub whole-range : (j : ℕ) → 1 ≤ j → j ≤ h → t j ≡ true → (1 ≤ slot j) × (slot j ≤ made)

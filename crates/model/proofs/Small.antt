@@ -11,7 +11,7 @@ use lib.ListN.{length}
 use lib.Ieee.{Float}
 use borrow.Author.Tests.{ltb-true, eqb-false}
 use Rattle.model.specs.Label.{isOrder, within, label, isPlace}
-use Rattle.model.specs.Fill.{Plan, slots, position, held, missing}
+use Rattle.model.specs.Fill.{Plan, slots, position, held, missing, productCount}
 use Rattle.model.specs.Check as Check
 use Rattle.model.specs.Check.{Link, Kind, opens, subtracts, divides, closes, closesPivot, none, Progress, Verdict, fine}
 use Rattle.model.specs.Check.{End, whole, broken, Chain, chainAfter, chain, nextOf, recordAt, before}
@@ -29,6 +29,8 @@ use Rattle.model.specs.Compile.{slotsBy, productsBy, recordsBy, orderly,
 use Rattle.model.specs.Program.{Record, compiledRecords, compiled}
 use Rattle.model.specs.Compare.{sameRecord, compared, compares}
 use Rattle.model.specs.Path.{tracing}
+use Rattle.model.specs.Dearest as Dearest
+use Rattle.model.specs.Dearest.{Costs, fullPlan, costs}
 use Rattle.model.specs.Solve.{replied}
 use Rattle.model.specs.File as File
 use Rattle.model.specs.File.{Filed, filed, writes, reads, wordsOf, checkFile}
@@ -315,6 +317,24 @@ tracing-small N L i j work entries =
       | yes few ↦ rw (tracing-short N L i j work entries e h few) (omega arith)
       | no more ↦ rw (tracing-fine N L i j work entries e h (omega arith)) tt
     ]
+
+-- ---- whether a plan costs most: 1 to 5
+
+abbrev pub SmallCosts : ℕ → Costs → Type 0
+SmallCosts b Dearest.yes = Unit {0}
+SmallCosts b Dearest.no = Unit {0}
+SmallCosts b (Dearest.refused r d) = Small b r d
+
+pub costs-small : (N : ℕ) (L : Plan) (work : ℕ) → SmallCosts (100000000 + length L) (costs N L work)
+unfolding costs
+costs-small N L work = go (admits plain N L work) (eqb (productCount N L) (productCount N (fullPlan N))) (admits-small N L work)
+  where
+    go : (a : Labels) (most : Bool) → ((r d : ℕ) → a ≡ bad r d → Small (100000000 + length L) r d)
+        → SmallCosts (100000000 + length L)
+        (elim a as (λ a. Costs) [ bad r d ↦ Dearest.refused r d | good ↦ elim most as (λ b. Costs) [ true ↦ Dearest.yes | false ↦ Dearest.no ] ])
+    go (bad r d) most plan = plan r d refl
+    go good true plan = tt
+    go good false plan = tt
 
 -- ---- the run
 

@@ -1,4 +1,4 @@
--- Document 01's "Known plans and values" and its listing, and values for document 02's A.1, A.2, A.5, A.6, A.7, A.9, A.10 and A.11, as one theorem
+-- Document 01's "Known plans and values" and its listing, and values for document 02's A.1, A.2, A.5, A.6, A.7, A.9, A.10, A.11 and A.14, as one theorem
 -- about the definitions.
 use Prim.Native.Nat.{ℕ, suc, _*_}
 use mathlib.Core.Bool.{true, false}
@@ -28,6 +28,8 @@ use Rattle.model.specs.Many.{parts, Outcomes, noneRun, ranMany, readBy, 
 use Rattle.model.specs.Agreement.{Seen, seen}
 use Rattle.model.specs.Compare.{sameRecord, compared, compares, workCompared}
 use Rattle.model.specs.Path.{named, distinct, leads, isPath, tracing, workTraced}
+use Rattle.model.specs.Dearest as Dearest
+use Rattle.model.specs.Dearest.{yes, no, fullPlan, costs, workCosted, mostProducts}
 use Rattle.model.specs.Marked.{Placed, solvedAs, refusedAt, valueAt, placed, productsMade}
 
 abbrev int : ℕ → Float
@@ -355,6 +357,11 @@ pub record Known : Type 0 where
       × (isPath 3 corner 3 2 (3 ∷ []) ≡ false)
   f3 : (tracing 3 corner 2 3 9 4 ≡ Check.refusal 22 0) × (tracing 3 corner 3 4 9 3 ≡ Check.refusal 22 0) × (tracing 3 corner 3 2 9 3 ≡ Check.refusal 23 0)
   f4 : workTraced 3 corner (replicate 10 9) ≡ 0 ∷ 0 ∷ 1 ∷ 2 ∷ 0 ∷ 0 ∷ 3 ∷ 0 ∷ 0 ∷ 9 ∷ []
+  -- A.14: the full table's products are reached by the first row and column alone; without the first pivot too, but such a plan is refused
+  d1 : (costs 2 (1 ∷ 2 ∷ 3 ∷ []) 4 ≡ yes) × (costs 2 (1 ∷ 2 ∷ 4 ∷ []) 4 ≡ no) × (costs 1 one 1 ≡ yes) × (costs 3 (1 ∷ 2 ∷ 3 ∷ 4 ∷ 5 ∷ []) 9 ≡ yes)
+  d2 : (productCount 2 (2 ∷ 3 ∷ []) ≡ 3) × (costs 2 (2 ∷ 3 ∷ []) 4 ≡ Dearest.refused 5 1)
+  d3 : (mostProducts 1 ≡ 0) × (mostProducts 2 ≡ 3) × (mostProducts 3 ≡ 11)
+  d4 : (workCosted 2 (1 ∷ 2 ∷ 3 ∷ []) (replicate 5 9) ≡ 1 ∷ 2 ∷ 3 ∷ 4 ∷ 9 ∷ []) × (workCosted 2 (2 ∷ 3 ∷ []) (replicate 5 9) ≡ 0 ∷ 0 ∷ 0 ∷ 0 ∷ 9 ∷ [])
   -- the listing for input `1 1`, a record a line
   listing : compiled 1 one
       ≡ 1 ∷ 1 ∷ 1 ∷ 1
@@ -380,7 +387,7 @@ unfolding rising falling joined kept total some count label column row places pl
     chainAfter chain kindOf belongs formed inOrder inTurn inRow allowed complete checkLinks checkFrom check
     step follow followed notFinite checkValues sweptOver ran reply leaves
     parts ranMany readBy read replies sharedC leavesMany sameRecord compared compares workCompared seen valueAt placed productsMade
-    isPlace inPlan named distinct leads isPath tracing workTraced
+    isPlace inPlan named distinct leads isPath tracing workTraced fullPlan costs workCosted mostProducts
     mul sub div neg lt eq le ofInt
 known = record {
   p1 = (refl, refl, refl, refl, refl, refl);
@@ -435,5 +442,9 @@ known = record {
   f2 = (refl, refl, refl, refl, refl, refl);
   f3 = (refl, refl, refl);
   f4 = refl;
+  d1 = (refl, refl, refl, refl);
+  d2 = (refl, refl);
+  d3 = (refl, refl, refl);
+  d4 = (refl, refl);
   listing = refl;
 }

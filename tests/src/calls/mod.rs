@@ -28,6 +28,7 @@ macro_rules! call {
 
 pub mod compare;
 pub mod compile;
+pub mod costs;
 pub mod file;
 pub mod labels;
 pub mod many;

@@ -3,6 +3,7 @@
 pub mod check;
 pub mod compact;
 pub mod compare;
+pub mod costs;
 pub mod dense;
 pub mod file;
 pub mod labels;

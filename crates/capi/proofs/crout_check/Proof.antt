@@ -4,7 +4,7 @@ use native.Mathlib.Omega.{arith}
 use borrow.Author.Needs.{needs}
 use Rattle.model.specs.Boundary.{verdictNumber, checkNumber}
 use Rattle.model.proofs.Small.{check-file-small}
-use Rattle.capi.proofs.Numbers.{verdict-fits}
+use Rattle.answers.proofs.Numbers.{verdict-fits}
 use Rattle.capi.proofs.crout_check.Statement.{statement}
 use Rattle.capi.proofs.crout_check.Tie as tie
 

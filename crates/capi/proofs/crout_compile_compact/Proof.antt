@@ -4,7 +4,7 @@ use borrow.Author.Needs.{needs}
 use Rattle.model.specs.Compile.{compact}
 use Rattle.model.specs.Boundary.{compiledNumber, compiledNumbers}
 use Rattle.model.proofs.Small.{compiles-small}
-use Rattle.capi.proofs.Numbers.{carried, compiled-fits}
+use Rattle.answers.proofs.Numbers.{carried, compiled-fits}
 use Rattle.capi.proofs.crout_compile_compact.Statement.{statement}
 use Rattle.capi.proofs.crout_compile_compact.Tie as tie
 

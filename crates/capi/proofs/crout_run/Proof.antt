@@ -4,7 +4,7 @@ use borrow.Author.Needs.{needs}
 use lib.Ieee.{ofBits}
 use Rattle.model.specs.Boundary.{replyNumber, replyNumbers}
 use Rattle.model.proofs.Small.{ran-small}
-use Rattle.capi.proofs.Numbers.{carried, reply-fits}
+use Rattle.answers.proofs.Numbers.{carried, reply-fits}
 use Rattle.capi.proofs.crout_run.Statement.{statement}
 use Rattle.capi.proofs.crout_run.Tie as tie
 

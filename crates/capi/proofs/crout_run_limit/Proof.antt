@@ -3,7 +3,7 @@ use native.Mathlib.Omega.{arith}
 use borrow.Author.Needs.{needs}
 use Rattle.model.specs.Boundary.{replyNumber, limitNumbers}
 use Rattle.model.proofs.Small.{ran-small}
-use Rattle.capi.proofs.Numbers.{carried, reply-fits}
+use Rattle.answers.proofs.Numbers.{carried, reply-fits}
 use Rattle.capi.proofs.crout_run_limit.Statement.{statement}
 use Rattle.capi.proofs.crout_run_limit.Tie as tie
 

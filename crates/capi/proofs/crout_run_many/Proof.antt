@@ -4,7 +4,7 @@ use native.Mathlib.Omega.{arith}
 use borrow.Author.Needs.{needs}
 use Rattle.model.specs.Boundary.{verdictNumber}
 use Rattle.model.proofs.Small.{many-small}
-use Rattle.capi.proofs.Numbers.{verdict-fits}
+use Rattle.answers.proofs.Numbers.{verdict-fits}
 use Rattle.capi.proofs.crout_run_many.Statement.{statement}
 use Rattle.capi.proofs.crout_run_many.Tie as tie
 

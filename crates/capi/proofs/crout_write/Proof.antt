@@ -3,7 +3,7 @@ use native.Mathlib.Omega.{arith}
 use borrow.Author.Needs.{needs}
 use Rattle.model.specs.Boundary.{filedNumber, filedNumbers}
 use Rattle.model.proofs.Small.{writes-small}
-use Rattle.capi.proofs.Numbers.{carried, filed-fits}
+use Rattle.answers.proofs.Numbers.{carried, filed-fits}
 use Rattle.capi.proofs.crout_write.Statement.{statement}
 use Rattle.capi.proofs.crout_write.Tie as tie
 

@@ -1,0 +1,2 @@
+-- The laws that the proofs of `answers` share.
+pub mod Numbers

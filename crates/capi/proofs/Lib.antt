@@ -1,2 +1,0 @@
--- The laws that the proofs of `capi` share.
-pub mod Numbers

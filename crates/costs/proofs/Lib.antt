@@ -1,0 +1,2 @@
+-- The laws that the proofs of `costs` share.
+pub mod Answers

@@ -1,0 +1,2 @@
+-- What the contracts of `costs` cite.
+pub mod Costed
