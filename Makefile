@@ -1,6 +1,7 @@
 # make demo      the examples: four texts compiled, filed, checked and run, a large site solved by Crout and by sweeps, and forty weather
 #                cases solved by one call
 # make pictures  docs/pictures, drawn anew
+# make handbook  docs/HANDBOOK.md, counted anew
 # make test      the gate
 # make bench     the exported functions beside plain Rust
 # make clean     removes build/; target/ belongs to rt
@@ -15,7 +16,7 @@ CFLAGS = -std=c11 -O2 -Wall -Wextra -Werror -pedantic
 SHARED = build/basics.o build/plan_text.o build/plan.o
 HEADERS = include/crout.h $(wildcard examples/*.h)
 
-.PHONY: demo pictures test bench clean
+.PHONY: demo pictures handbook test bench clean
 
 demo: build/sheet build/site build/weather
 	build/sheet examples/document002.txt build/document002.crout
@@ -37,13 +38,17 @@ docs/pictures/path.svg: examples/grid.txt build/spy
 	build/spy $< 13 12 >build/path.svg
 	mv build/path.svg $@
 
+handbook: build/handbook
+	build/handbook >build/HANDBOOK.md
+	mv build/HANDBOOK.md docs/HANDBOOK.md
+
 test:
 	.ci/run
 
 bench: $(LIBRARY)
 	tests/cargo run --offline --release --manifest-path bench/Cargo.toml
 
-build/sheet build/spy build/site build/weather: build/%: build/%.o $(SHARED) $(LIBRARY)
+build/sheet build/spy build/site build/weather build/handbook: build/%: build/%.o $(SHARED) $(LIBRARY)
 	$(CC) $(LDFLAGS) $^ -o $@
 
 build/%.o: examples/%.c $(HEADERS) Makefile

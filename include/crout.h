@@ -47,8 +47,9 @@ enum crout_refusal_number {
     CROUT_SIDES = 25,
     CROUT_DIAGONAL_MISSING = 26, /* the first row r whose place (r, r) is not in the plan */
     CROUT_UNSETTLED = 27,
-    CROUT_DIFFERENT = 28     /* the first chained record that is not the compiler's, the last one if the chain ends too soon;
+    CROUT_DIFFERENT = 28,    /* the first chained record that is not the compiler's, the last one if the chain ends too soon;
                                 0 if record 0 has another order or other counts */
+    CROUT_NOT_COUNTED = 30
 };
 
 /* The refusal's number in what a call returned, 0 if it didn't refuse. */
@@ -138,6 +139,8 @@ static inline const char *crout_refusal_text(uint32_t number) {
     case CROUT_DIFFERENT:
         return "the program's chain is not the compiler's for this plan: undo the edit at the record that the detail gives; "
                "0 means another order or other counts of coefficients or slots, so give the plan that the program was compiled for";
+    case CROUT_NOT_COUNTED:
+        return "plans are counted for the orders 1 to 4 alone: give one of these";
     default:
         return "no refusal has this number: what was split is not what a call returned, or a detail has passed 32 bits";
     }
@@ -192,6 +195,10 @@ uint64_t crout_fill_path(uint32_t n, const uint32_t *plan, size_t plan_len, uint
    plan of the order has more, and one that is accepted has as many exactly when its first row and its first column are whole. work is at
    least n * n numbers: 1 to 4 leave it unchanged, after 5 its first n * n numbers are 0, else they are the plan's slots. Refusals 1 to 5. */
 uint64_t crout_costs_most(uint32_t n, const uint32_t *plan, size_t plan_len, uint32_t *work, size_t work_len);
+
+/* Counts the plans of order n, 1 to 4, that is all sets of its labels. out: those that are accepted, then those that are refused for
+   missing pivot m = 1, 2, 3 and 4; zeros for m above n. For another order 30, and all zeros. */
+uint64_t crout_count_plans(uint32_t n, uint64_t out[5]);
 
 /* Writes words as a program file. out: bytes written, 0, 0. Refusals 7 and 19. */
 uint64_t crout_write(const uint32_t *words, size_t words_len, uint8_t *bytes, size_t bytes_len, uint64_t out[3]);

@@ -50,7 +50,7 @@ g++ -std=c++11 "${strict[@]}" -x c++ tests/c/texts.c -o $at/texts_cpp
 $at/texts_c
 $at/texts_cpp
 
-for name in sheet spy site weather; do
+for name in sheet spy site weather handbook; do
     gcc -std=c11 "${strict[@]}" examples/$name.c examples/plan.c examples/plan_text.c examples/basics.c $library -o $at/$name
 done
 
@@ -85,6 +85,11 @@ grep -q '^standard output: ' $at/said || fail "site's lost output wasn't reporte
 same tests/examples/weather.out 0 $at/weather
 $at/weather >/dev/full 2>$at/said && fail "weather's lost output went unnoticed"
 grep -q '^standard output: ' $at/said || fail "weather's lost output wasn't reported"
+
+# handbook: the page of the documents
+same docs/HANDBOOK.md 0 $at/handbook
+$at/handbook >/dev/full 2>$at/said && fail "handbook's lost output went unnoticed"
+grep -q '^standard output: ' $at/said || fail "handbook's lost output wasn't reported"
 
 # what a picture's legend says of its path
 path_legend() {

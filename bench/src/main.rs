@@ -16,6 +16,7 @@ use case::Case;
 use crout_tests::networks;
 
 mod case;
+mod census;
 mod check;
 mod compare;
 mod compile;
@@ -90,6 +91,7 @@ fn beside() {
     let round = Case::new("way round 600", 600, case::way_round(600));
     let full_600 = Case::new("full 600", 600, networks::full(600));
     path::paths(&grid, &[&large, &sparse, &round, &full_600]);
+    census::census();
     table::head("file round trip", &[]);
     cases.into_iter().for_each(file::round_trip);
     table::head("run", &run::COLUMNS);

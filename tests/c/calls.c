@@ -2,7 +2,7 @@
    with a message and status 1.
 
    GROUPS says how many groups of functions the library has: 1 labels, 2 compile, 3 check, write and read, 4 run and solve, 5 run many
-   right sides, 6 compare a program with a plan, 7 show a path, 8 tell whether a plan costs most. */
+   right sides, 6 compare a program with a plan, 7 show a path, 8 tell whether a plan costs most, 9 count plans. */
 #include "crout.h"
 
 #include <stdio.h>
@@ -10,7 +10,7 @@
 #include <string.h>
 
 #ifndef GROUPS
-#define GROUPS 8
+#define GROUPS 9
 #endif
 
 #define COUNT(row) (sizeof(row) / sizeof((row)[0]))
@@ -579,6 +579,24 @@ static void costs(void) {
 }
 
 #endif
+#if GROUPS >= 9
+
+/* Whether order n is answered so, with these counts; they are sevens before the call. */
+static int counted(uint32_t n, uint64_t answer, uint64_t accepted, uint64_t m1, uint64_t m2, uint64_t m3, uint64_t m4) {
+    uint64_t out[5] = {7, 7, 7, 7, 7};
+    return crout_count_plans(n, out) == answer && out[0] == accepted && out[1] == m1 && out[2] == m2 && out[3] == m3 && out[4] == m4;
+}
+
+static void counts(void) {
+    expect(counted(1, 0, 1, 1, 0, 0, 0), "H1, order 1");
+    expect(counted(2, 0, 5, 8, 3, 0, 0), "H1, order 2");
+    expect(counted(3, 0, 121, 256, 96, 39, 0), "H1, order 3");
+    expect(counted(0, refusal(30, 0), 0, 0, 0, 0, 0), "H2, order 0");
+    expect(counted(5, refusal(30, 0), 0, 0, 0, 0, 0), "H2, order 5");
+    expect(counted(4294967295u, refusal(30, 0), 0, 0, 0, 0, 0), "30 for the largest number");
+}
+
+#endif
 
 int main(void) {
     labels();
@@ -615,6 +633,9 @@ int main(void) {
 #endif
 #if GROUPS >= 8
     costs();
+#endif
+#if GROUPS >= 9
+    counts();
 #endif
     return 0;
 }

@@ -46,7 +46,7 @@ pub(super) struct Table {
     below: Vec<usize>,
     right: Vec<usize>,
     /// The first missing pivot, 0 if none is.
-    missing: usize,
+    pub(super) missing: usize,
 }
 
 /// The indices in the work slice of (i, h) and (h, j) for h rising, by additions; h is below both i and j.
@@ -102,7 +102,7 @@ impl Table {
     }
 
     /// The slots of all places by rising label, in the place of their marks.
-    fn fill(n: usize, work: &mut [u32]) -> Self {
+    pub(super) fn fill(n: usize, work: &mut [u32]) -> Self {
         let mut table = Self {
             n,
             slots: 0,

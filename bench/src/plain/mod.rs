@@ -1,6 +1,7 @@
-//! The compilers, the checker, the comparison with a plan, the search for a path, the runners and the file's writer and reader as one would
-//! write them in plain Rust, with the same checks and operations; and dense Crout.
+//! The compilers, the checker, the comparison with a plan, the search for a path, the count of plans, the runners and the file's writer and
+//! reader as one would write them in plain Rust, with the same checks and operations; and dense Crout.
 
+pub mod census;
 pub mod check;
 pub mod compact;
 pub mod compare;

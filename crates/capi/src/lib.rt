@@ -1,4 +1,4 @@
-// The functions exported for C: document 01, "The C boundary"; document 02, A.1, A.2, A.6, A.7, A.10, A.11 and A.14. The header is include/crout.h.
+// The functions exported for C: document 01, "The C boundary"; document 02, A.1, A.2, A.6, A.7, A.10, A.11, A.13 and A.14. The header is include/crout.h.
 use answers::compile_answer;
 use answers::costs_answer;
 use answers::file_answer;
@@ -16,6 +16,7 @@ ghost use Rattle.model.specs.Check.{word};
 ghost use Rattle.model.specs.Compare.{compares, workCompared};
 ghost use Rattle.model.specs.Path.{tracing, workTraced};
 ghost use Rattle.model.specs.Dearest.{costs, workCosted};
+ghost use Rattle.model.specs.Census.{countable, planCounts};
 ghost use Rattle.model.specs.Formula.{C, Y, X};
 ghost use Rattle.model.specs.Many.{ranMany, verdict, replies, leavesMany};
 ghost use Rattle.model.specs.Run.{ran, reply, leaves};
@@ -140,6 +141,15 @@ pub extern "C" fn crout_costs_most(n: u32, plan: &[u32], work: &mut [u32]) -> u6
     ensures work { λ r. ⌜ now (work .exit) ≡ workCosted n (now (plan .entry)) (now (work .entry)) ⌝ }
 {
     costs_answer(costs::costs_most(n, plan, work))
+}
+
+// How many plans of order n, 1 to 4, are accepted, then how many are refused for pivot 1, 2, 3 and 4. 30, and zeros, for other orders.
+#[no_mangle]
+pub extern "C" fn crout_count_plans(n: u32, out: &mut [u64; 5]) -> u64
+    ensures answer { λ r. ⌜ r ≡ verdictNumber (countable n) ⌝ }
+    ensures out { λ r. ⌜ now (out .exit) ≡ planCounts n ⌝ }
+{
+    verdict_answer(census::count_plans(n, out))
 }
 
 // Writes words as a program file. out: the bytes written.

@@ -61,7 +61,7 @@ or-cases : (a b : Bool) → (a || b) ≡ true → (a ≡ true) ⊎ (b ≡ true)
 or-cases true b e = inl refl
 or-cases false b e = inr e
 
-named-cases : (x e : ℕ) (es : List ℕ) → named x (e ∷ es) ≡ true → (x ≡ e) ⊎ (named x es ≡ true)
+pub named-cases : (x e : ℕ) (es : List ℕ) → named x (e ∷ es) ≡ true → (x ≡ e) ⊎ (named x es ≡ true)
 unfolding named
 named-cases x e es p = ⊎-elim (λ q. inl (sym (eqb-true e x q))) inr (or-cases (eqb e x) (named x es) p)
 
@@ -74,11 +74,11 @@ named-append x (e ∷ xs) ys = step (eqb e x) (named-append x xs ys)
     step true p = refl
     step false p = p
 
-named-here : (x : ℕ) (es : List ℕ) → named x (x ∷ es) ≡ true
+pub named-here : (x : ℕ) (es : List ℕ) → named x (x ∷ es) ≡ true
 unfolding named
 named-here x es = rw (eq-eqb x x refl)
 
-named-later : (x e : ℕ) (es : List ℕ) → named x es ≡ true → named x (e ∷ es) ≡ true
+pub named-later : (x e : ℕ) (es : List ℕ) → named x es ≡ true → named x (e ∷ es) ≡ true
 unfolding named
 named-later x e es p = step (eqb e x)
   where

@@ -31,6 +31,7 @@ use Rattle.model.specs.Compare.{sameRecord, compared, compares}
 use Rattle.model.specs.Path.{tracing}
 use Rattle.model.specs.Dearest as Dearest
 use Rattle.model.specs.Dearest.{Costs, fullPlan, costs}
+use Rattle.model.specs.Census.{countable}
 use Rattle.model.specs.Solve.{replied}
 use Rattle.model.specs.File as File
 use Rattle.model.specs.File.{Filed, filed, writes, reads, wordsOf, checkFile}
@@ -335,6 +336,16 @@ costs-small N L work = go (admits plain N L work) (eqb (productCount N L) (produ
     go (bad r d) most plan = plan r d refl
     go good true plan = tt
     go good false plan = tt
+
+-- ---- counting plans: 30
+
+pub countable-small : (N : ℕ) → SmallVerdict 0 (countable N)
+unfolding countable
+countable-small N = go (within N 4)
+  where
+    go : (few : Bool) → SmallVerdict 0 (elim few as (λ b. Verdict) [ true ↦ fine | false ↦ Check.refusal 30 0 ])
+    go true = tt
+    go false = omega arith
 
 -- ---- the run
 

@@ -1,4 +1,4 @@
--- Document 01's "Known plans and values" and its listing, and values for document 02's A.1, A.2, A.5, A.6, A.7, A.9, A.10, A.11 and A.14, as one theorem
+-- Document 01's "Known plans and values" and its listing, and values for document 02's A.1, A.2, A.5, A.6, A.7, A.9, A.10, A.11, A.13 and A.14, as one theorem
 -- about the definitions.
 use Prim.Native.Nat.{ℕ, suc, _*_}
 use mathlib.Core.Bool.{true, false}
@@ -30,6 +30,7 @@ use Rattle.model.specs.Compare.{sameRecord, compared, compares, workComp
 use Rattle.model.specs.Path.{named, distinct, leads, isPath, tracing, workTraced}
 use Rattle.model.specs.Dearest as Dearest
 use Rattle.model.specs.Dearest.{yes, no, fullPlan, costs, workCosted, mostProducts}
+use Rattle.model.specs.Census.{sets, plans, plansMissing, countable, planCounts}
 use Rattle.model.specs.Marked.{Placed, solvedAs, refusedAt, valueAt, placed, productsMade}
 
 abbrev int : ℕ → Float
@@ -362,6 +363,9 @@ pub record Known : Type 0 where
   d2 : (productCount 2 (2 ∷ 3 ∷ []) ≡ 3) × (costs 2 (2 ∷ 3 ∷ []) 4 ≡ Dearest.refused 5 1)
   d3 : (mostProducts 1 ≡ 0) × (mostProducts 2 ≡ 3) × (mostProducts 3 ≡ 11)
   d4 : (workCosted 2 (1 ∷ 2 ∷ 3 ∷ []) (replicate 5 9) ≡ 1 ∷ 2 ∷ 3 ∷ 4 ∷ 9 ∷ []) × (workCosted 2 (2 ∷ 3 ∷ []) (replicate 5 9) ≡ 0 ∷ 0 ∷ 0 ∷ 0 ∷ 9 ∷ [])
+  -- A.13: the handbook's counts up to order 3, and 30
+  h1 : (planCounts 1 ≡ 1 ∷ 1 ∷ 0 ∷ 0 ∷ 0 ∷ []) × (planCounts 2 ≡ 5 ∷ 8 ∷ 3 ∷ 0 ∷ 0 ∷ []) × (planCounts 3 ≡ 121 ∷ 256 ∷ 96 ∷ 39 ∷ 0 ∷ [])
+  h2 : (countable 4 ≡ fine) × (countable 0 ≡ Check.refusal 30 0) × (countable 5 ≡ Check.refusal 30 0) × (planCounts 5 ≡ replicate 5 0)
   -- the listing for input `1 1`, a record a line
   listing : compiled 1 one
       ≡ 1 ∷ 1 ∷ 1 ∷ 1
@@ -387,7 +391,7 @@ unfolding rising falling joined kept total some count label column row places pl
     chainAfter chain kindOf belongs formed inOrder inTurn inRow allowed complete checkLinks checkFrom check
     step follow followed notFinite checkValues sweptOver ran reply leaves
     parts ranMany readBy read replies sharedC leavesMany sameRecord compared compares workCompared seen valueAt placed productsMade
-    isPlace inPlan named distinct leads isPath tracing workTraced fullPlan costs workCosted mostProducts
+    isPlace inPlan named distinct leads isPath tracing workTraced fullPlan costs workCosted mostProducts sets plans plansMissing countable planCounts
     mul sub div neg lt eq le ofInt
 known = record {
   p1 = (refl, refl, refl, refl, refl, refl);
@@ -446,5 +450,7 @@ known = record {
   d2 = (refl, refl);
   d3 = (refl, refl, refl);
   d4 = (refl, refl);
+  h1 = (refl, refl, refl);
+  h2 = (refl, refl, refl, refl);
   listing = refl;
 }

@@ -26,6 +26,7 @@ macro_rules! call {
     };
 }
 
+pub mod census;
 pub mod compare;
 pub mod compile;
 pub mod costs;

@@ -1,5 +1,6 @@
 //! The documents read once more, in plain Rust and by other means than the proved code where there are any.
 
+pub mod census;
 pub mod check;
 pub mod compact;
 pub mod compare;

@@ -1,0 +1,2 @@
+-- The laws that the proofs of `census` share.
+pub mod Marking
