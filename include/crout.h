@@ -5,8 +5,8 @@
    slice of no entries still has a pointer that isn't null.
 
    A call that can refuse returns 0, or the refusal's number times 2^32 plus its detail, and puts its further numbers into out,
-   three of them, four where a limit is taken, 257 for many right sides, zeros where none is named. crout_refusal and crout_detail
-   split what was returned, crout_refusal_text says it.
+   three of them, four where a limit is taken, five for the counts of plans, 257 for many right sides, zeros where none is named.
+   crout_refusal and crout_detail split what was returned, crout_refusal_text says it.
 
    The header is C99 and C++. examples/ has programs that call it. */
 #ifndef CROUT_H
