@@ -1,5 +1,5 @@
-# make demo      the examples: four texts compiled, filed, checked and run, a large site solved by Crout and by sweeps, and forty weather
-#                cases solved by one call
+# make demo      the examples: four texts compiled, filed, checked and run, a star numbered otherwise, a large site solved by Crout and by
+#                sweeps, and forty weather cases solved by one call
 # make pictures  docs/pictures, drawn anew
 # make handbook  docs/HANDBOOK.md, counted anew
 # make test      the gate
@@ -18,15 +18,16 @@ HEADERS = include/crout.h $(wildcard examples/*.h)
 
 .PHONY: demo pictures handbook test bench clean
 
-demo: build/sheet build/site build/weather
+demo: build/sheet build/order build/site build/weather
 	build/sheet examples/document002.txt build/document002.crout
 	build/sheet examples/heating.txt build/heating.crout
 	build/sheet examples/nearly_equal.txt build/nearly_equal.crout
 	build/sheet examples/looks_cut_off.txt build/looks_cut_off.crout
+	build/order examples/star.txt
 	build/site
 	build/weather
 
-pictures: docs/pictures/document002.svg docs/pictures/grid.svg docs/pictures/path.svg
+pictures: docs/pictures/document002.svg docs/pictures/grid.svg docs/pictures/path.svg docs/pictures/ordered.svg
 
 docs/pictures/%.svg: examples/%.txt build/spy
 	mkdir -p docs/pictures
@@ -38,6 +39,12 @@ docs/pictures/path.svg: examples/grid.txt build/spy
 	build/spy $< 13 12 >build/path.svg
 	mv build/path.svg $@
 
+docs/pictures/ordered.svg: examples/grid.txt build/order build/spy
+	mkdir -p docs/pictures
+	build/order $< >build/ordered.txt
+	build/spy build/ordered.txt >build/ordered.svg
+	mv build/ordered.svg $@
+
 handbook: build/handbook
 	build/handbook >build/HANDBOOK.md
 	mv build/HANDBOOK.md docs/HANDBOOK.md
@@ -48,7 +55,7 @@ test:
 bench: $(LIBRARY)
 	tests/cargo run --offline --release --manifest-path bench/Cargo.toml
 
-build/sheet build/spy build/site build/weather build/handbook: build/%: build/%.o $(SHARED) $(LIBRARY)
+build/sheet build/spy build/order build/site build/weather build/handbook: build/%: build/%.o $(SHARED) $(LIBRARY)
 	$(CC) $(LDFLAGS) $^ -o $@
 
 build/%.o: examples/%.c $(HEADERS) Makefile

@@ -1,7 +1,6 @@
 #include "basics.h"
 
 #include <errno.h>
-#include <stdint.h>
 #include <stdio.h>
 #include <stdlib.h>
 #include <string.h>
@@ -76,4 +75,13 @@ int output_is_out(void) {
     if (fflush(stdout) != 0 || ferror(stdout))
         return complain("standard output");
     return 1;
+}
+
+int read_whole(const char *word, uint32_t *number) {
+    uint64_t value = 0;
+    const char *digit = word;
+    for (; *digit >= '0' && *digit <= '9' && value <= UINT32_MAX; digit++)
+        value = 10 * value + (uint64_t)(*digit - '0');
+    *number = (uint32_t)value;
+    return digit != word && *digit == 0 && value <= UINT32_MAX;
 }

@@ -1,8 +1,9 @@
-/* Memory and files for the examples. */
+/* Memory, files and arguments for the examples. */
 #ifndef BASICS_H
 #define BASICS_H
 
 #include <stddef.h>
+#include <stdint.h>
 
 /* A row of so many zeroed entries, never null: the library wants a pointer even for a slice of none. Without memory the
    program ends with a message. */
@@ -20,5 +21,8 @@ int bytes_to_file(const char *path, const void *bytes, size_t len);
 
 /* Standard output is on the disk or in the pipe. 0, with a message, if it isn't. */
 int output_is_out(void);
+
+/* Reads a word as a whole number below 2^32. 0 if it isn't one. */
+int read_whole(const char *word, uint32_t *number);
 
 #endif

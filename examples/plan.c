@@ -49,6 +49,24 @@ static uint64_t compile(struct plan *plan, uint32_t *words, size_t words_len, ui
     return crout_compile(plan->order, plan->labels, plan->count, plan->slots, places, words, words_len, out);
 }
 
+/* How many places are held from (row, column) on, down or to the right as far as the table goes. */
+static uint64_t held_from(const struct plan *plan, uint32_t row, uint32_t column, int down) {
+    uint64_t held = 0;
+    for (uint32_t label; (label = crout_label(plan->order, row, column)) != 0; down ? row++ : column++)
+        held += plan->slots[label - 1] != 0;
+    return held;
+}
+
+/* One for each two held places of which one is below a pivot and one to the right of it, and one for each of these places. */
+static uint64_t products_of(const struct plan *plan) {
+    uint64_t products = 0;
+    for (uint32_t m = 1; m < plan->order; m++) {
+        const uint64_t below = held_from(plan, m + 1, m, 1), right = held_from(plan, m, m + 1, 0);
+        products += below * right + below + right;
+    }
+    return products;
+}
+
 uint64_t plan_measure(struct plan *plan) {
     const size_t places = (size_t)plan->order * plan->order;
     uint32_t no_words;
@@ -60,6 +78,7 @@ uint64_t plan_measure(struct plan *plan) {
     plan->records = crout_detail(answer);
     for (size_t k = 0; k < places; k++)
         plan->held += plan->slots[k] != 0;
+    plan->products = products_of(plan);
     return 0;
 }
 

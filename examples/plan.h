@@ -23,10 +23,10 @@ struct plan plan_of_text(const struct plan_text *text);
 
 void plan_free(struct plan *plan);
 
-/* Asks the compiler for slots, held and records, and not yet for a program. Returns 0 or the refusal. */
+/* Asks the compiler for slots, held and records, and not yet for a program; counts the products. Returns 0 or the refusal. */
 uint64_t plan_measure(struct plan *plan);
 
-/* Compiles a plan that was measured: words and products. Returns 0 or the refusal. */
+/* Compiles a plan that was measured: words, and the products that the compiler tells. Returns 0 or the refusal. */
 uint64_t plan_compile(struct plan *plan);
 
 /* The label that has a slot; 0 if none has. */

@@ -38,17 +38,10 @@ static char *next_word(char **rest) {
     return word;
 }
 
-static int read_whole(const struct reading *reading, const char *word, uint32_t *number) {
-    uint64_t value = 0;
-    const char *digit = word;
+static int read_natural(const struct reading *reading, const char *word, uint32_t *number) {
     if (word == NULL)
         return fault(reading, reading->line, "a whole number is missing");
-    for (; *digit >= '0' && *digit <= '9' && value <= UINT32_MAX; digit++)
-        value = 10 * value + (uint64_t)(*digit - '0');
-    if (*digit != 0 || value > UINT32_MAX)
-        return fault(reading, reading->line, "not a whole number below 2^32: %s", word);
-    *number = (uint32_t)value;
-    return 1;
+    return read_whole(word, number) || fault(reading, reading->line, "not a whole number below 2^32: %s", word);
 }
 
 static int read_number(const struct reading *reading, const char *word, double *number) {
@@ -68,7 +61,7 @@ static int read_order(struct reading *reading, char *rest) {
     struct plan_text *text = reading->text;
     if (text->order != 0)
         return fault(reading, reading->line, "the order is given twice");
-    if (!read_whole(reading, next_word(&rest), &text->order))
+    if (!read_natural(reading, next_word(&rest), &text->order))
         return 0;
     /* every order that the library takes has the place (1, 1) */
     if (crout_label(text->order, 1, 1) == 0)
@@ -96,7 +89,7 @@ static int read_places(struct reading *reading, char *rest) {
     if (!may_add_places(reading))
         return 0;
     do {
-        if (!read_whole(reading, word, &row) || !read_whole(reading, next_word(&rest), &column))
+        if (!read_natural(reading, word, &row) || !read_natural(reading, next_word(&rest), &column))
             return 0;
         label = crout_label(text->order, row, column);
         if (label == 0)
@@ -113,7 +106,7 @@ static int read_labels(struct reading *reading, char *rest) {
     if (!may_add_places(reading))
         return 0;
     do {
-        if (!read_whole(reading, word, &label))
+        if (!read_natural(reading, word, &label))
             return 0;
         if (crout_place(text->order, label) == 0)
             return fault(reading, reading->line, "the table of order %u has no label %u", text->order, label);
@@ -191,7 +184,7 @@ static int read_limit(struct reading *reading, char *rest) {
 static int read_expected(struct reading *reading, char *rest) {
     struct value_set *set = set_for(reading, "a refusal is expected of");
     begin_list(reading, NULL, 0);
-    return set != NULL && read_whole(reading, next_word(&rest), &set->expected) && line_ends(reading, rest);
+    return set != NULL && read_natural(reading, next_word(&rest), &set->expected) && line_ends(reading, rest);
 }
 
 static int read_numbers(struct reading *reading, const char *word, char *rest) {

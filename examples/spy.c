@@ -107,7 +107,8 @@ static void draw_heading(const struct picture *picture) {
     printf("<rect width=\"%u\" height=\"%u\" fill=\"#fff\"/>\n", picture->width, picture->height);
     printf("<text x=\"%u\" y=\"28\" font-size=\"15\">Order %" PRIu32 ": ", picture->left, plan->order);
     if (picture->missing == 0)
-        printf("places %zu, fill %" PRIu64 ", records %" PRIu64 "</text>\n", plan->count, plan->held - plan->count, plan->records);
+        printf("places %zu, fill %" PRIu64 ", slots %" PRIu64 ", products %" PRIu64 "</text>\n", plan->count,
+               plan->held - plan->count, plan->held, plan->products);
     else
         printf("places %zu, refused</text>\n", plan->count);
 }
@@ -374,16 +375,6 @@ static int drawn(struct plan *plan, const uint32_t *place) {
     free(picture.kind);
     free(picture.path);
     return answer == 0 && output_is_out();
-}
-
-/* 0 if the word isn't a whole number below 2^32. */
-static int read_whole(const char *word, uint32_t *number) {
-    uint64_t value = 0;
-    const char *digit = word;
-    for (; *digit >= '0' && *digit <= '9' && value <= UINT32_MAX; digit++)
-        value = 10 * value + (uint64_t)(*digit - '0');
-    *number = (uint32_t)value;
-    return digit != word && *digit == 0 && value <= UINT32_MAX;
 }
 
 int main(int argc, char **argv) {

@@ -49,6 +49,7 @@ enum crout_refusal_number {
     CROUT_UNSETTLED = 27,
     CROUT_DIFFERENT = 28,    /* the first chained record that is not the compiler's, the last one if the chain ends too soon;
                                 0 if record 0 has another order or other counts */
+    CROUT_NUMBERING = 29,
     CROUT_NOT_COUNTED = 30
 };
 
@@ -139,6 +140,8 @@ static inline const char *crout_refusal_text(uint32_t number) {
     case CROUT_DIFFERENT:
         return "the program's chain is not the compiler's for this plan: undo the edit at the record that the detail gives; "
                "0 means another order or other counts of coefficients or slots, so give the plan that the program was compiled for";
+    case CROUT_NUMBERING:
+        return "the numbering has fewer or more entries than the order: lend exactly as many";
     case CROUT_NOT_COUNTED:
         return "plans are counted for the orders 1 to 4 alone: give one of these";
     default:
@@ -199,6 +202,17 @@ uint64_t crout_costs_most(uint32_t n, const uint32_t *plan, size_t plan_len, uin
 /* Counts the plans of order n, 1 to 4, that is all sets of its labels. out: those that are accepted, then those that are refused for
    missing pivot m = 1, 2, 3 and 4; zeros for m above n. For another order 30, and all zeros. */
 uint64_t crout_count_plans(uint32_t n, uint64_t out[5]);
+
+/* Numbers the unknowns of a plan of order n otherwise, so that it needs fewer slots. Trial k = 0, 1, .. exchanges those at positions t and
+   t + 1, t = 1 + k mod (n - 1), and keeps the exchange if the plan is still accepted and has fewer slots than with the numbering kept so
+   far. All trials are made, for order 1 none. numbering has n entries, and entry p ends as the given number of the unknown now at position
+   p, both from 1: the renumbered plan has the place (i, j) exactly where the given plan has (entry i, entry j). A refusal leaves numbering
+   unchanged. work is at least n * n numbers: 1 to 4 leave it unchanged, after 5 its first n * n numbers are 0, after 29 they are the given
+   plan's slots, else those of the renumbered plan.
+   out: the slots of the renumbered plan, the trials made, the slots less plan_len, and no numbering at all saves more than these.
+   Refusals 1 to 5, 29. */
+uint64_t crout_order(uint32_t n, const uint32_t *plan, size_t plan_len, uint32_t trials, uint32_t *work, size_t work_len,
+                     uint32_t *numbering, size_t numbering_len, uint64_t out[3]);
 
 /* Writes words as a program file. out: bytes written, 0, 0. Refusals 7 and 19. */
 uint64_t crout_write(const uint32_t *words, size_t words_len, uint8_t *bytes, size_t bytes_len, uint64_t out[3]);

@@ -50,7 +50,7 @@ g++ -std=c++11 "${strict[@]}" -x c++ tests/c/texts.c -o $at/texts_cpp
 $at/texts_c
 $at/texts_cpp
 
-for name in sheet spy site weather handbook; do
+for name in sheet spy order site weather handbook; do
     gcc -std=c11 "${strict[@]}" examples/$name.c examples/plan.c examples/plan_text.c examples/basics.c $library -o $at/$name
 done
 
@@ -142,6 +142,40 @@ path '600 1 599' $at/arrow.txt 600 599
     echo 'place 600 1'
 } >$at/longest.txt
 path "600 $(echo {1..600})" $at/longest.txt 600 600
+
+# order: a star, the grid drawn, several numbers of trials, and a plan that is refused
+same tests/examples/star.out 0 $at/order examples/star.txt
+$at/order examples/grid.txt >$at/ordered.txt
+same docs/pictures/ordered.svg 0 $at/spy $at/ordered.txt
+
+# what is said of a star's slots after the trials, and of its numbering
+ordering() {
+    $at/order examples/star.txt "$1" | sed -n -e 's/^# after *slots \([0-9]*\),.*/\1/p' -e 's/^# \([0-9 ]*\)$/\1/p'
+}
+
+# ordered TRIALS SLOTS NUMBERING: the star comes to this
+ordered() {
+    printf '%s\n' "$2" "$3" >$at/ordering
+    same $at/ordering 0 ordering "$1"
+}
+
+ordered 0 64 '1 2 3 4 5 6 7 8'
+ordered 1 52 '2 1 3 4 5 6 7 8'
+ordered 2 42 '2 3 1 4 5 6 7 8'
+ordered 6 22 '2 3 4 5 6 7 1 8'
+ordered 7 22 '2 3 4 5 6 7 1 8'
+printf 'order 1\nplace 1 1\n' >$at/single.txt
+$at/order $at/single.txt 4294967295 >$at/said
+grep -q 'otherwise: trials 0$' $at/said || fail "trials were made for order 1"
+missing='  refusal 5, detail 2: a pivot is missing, so no coefficients can be solved: put the place (m, m) into the plan, '
+missing+='m being the detail, or number the unknowns otherwise'
+says "$missing" 1 $at/order tests/examples/missing.txt
+usage='usage: order FILE.txt [TRIALS] > ORDERED.txt'
+says "$usage" 2 $at/order
+says "$usage" 2 $at/order examples/star.txt 1 2
+says "$usage" 2 $at/order examples/star.txt -1
+$at/order examples/star.txt >/dev/full 2>$at/said && fail "order's lost output went unnoticed"
+grep -q '^standard output: ' $at/said || fail "order's lost output wasn't reported"
 
 # bad lines
 broken '1: the text ends without an order' '# nothing\n'

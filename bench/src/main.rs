@@ -1,9 +1,9 @@
 //! The exported functions beside plain Rust: a line for each case with the best times in microseconds, their ratio, and the
 //! nanoseconds for each record (and, for a run, each product), ours first. Beside a run stand dense Crout and, where it is
 //! installed, KLU, beside the compact program ours of the plain one, and beside a program with spare records ours of the compiled
-//! one. Many right sides at once stand beside as many runs, paths beside a compilation of their plan. Sweeps stand beside one Crout
-//! run of the same system, on some networks and then on grids of rising orders. The callers take turns, and what they may write is
-//! cleared before each timing.
+//! one. Many right sides at once stand beside as many runs, paths beside a compilation of their plan; a better numbering has
+//! nanoseconds for each trial. Sweeps stand beside one Crout run of the same system, on some networks and then on grids of rising
+//! orders. The callers take turns, and what they may write is cleared before each timing.
 //!
 //! The last table has the time of a run against the order. `--csv FILE` and `--plot FILE` write it as CSV and as a picture; with
 //! `growth` nothing else is measured.
@@ -28,6 +28,7 @@ mod klu;
 #[path = "klu_absent.rs"]
 mod klu;
 mod many;
+mod order;
 mod path;
 mod plain;
 mod plot;
@@ -92,6 +93,7 @@ fn beside() {
     let full_600 = Case::new("full 600", 600, networks::full(600));
     path::paths(&grid, &[&large, &sparse, &round, &full_600]);
     census::census();
+    order::orders(&[&large, &grid, &random], &grid);
     table::head("file round trip", &[]);
     cases.into_iter().for_each(file::round_trip);
     table::head("run", &run::COLUMNS);

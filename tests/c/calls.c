@@ -2,7 +2,8 @@
    with a message and status 1.
 
    GROUPS says how many groups of functions the library has: 1 labels, 2 compile, 3 check, write and read, 4 run and solve, 5 run many
-   right sides, 6 compare a program with a plan, 7 show a path, 8 tell whether a plan costs most, 9 count plans. */
+   right sides, 6 compare a program with a plan, 7 show a path, 8 tell whether a plan costs most, 9 count plans, 10 find a better
+   numbering. */
 #include "crout.h"
 
 #include <stdio.h>
@@ -10,7 +11,7 @@
 #include <string.h>
 
 #ifndef GROUPS
-#define GROUPS 9
+#define GROUPS 10
 #endif
 
 #define COUNT(row) (sizeof(row) / sizeof((row)[0]))
@@ -597,6 +598,67 @@ static void counts(void) {
 }
 
 #endif
+#if GROUPS >= 10
+
+static uint32_t numbering[8];
+
+/* What the call returns for a plan and a numbering of so many entries, with work numbers, numbering and out full of sevens before. */
+static uint64_t ordered(uint32_t n, const uint32_t *plan, size_t plan_len, uint32_t trials, size_t work_len, size_t numbering_len,
+                        uint64_t out[3]) {
+    size_t k;
+    sevens(out);
+    for (k = 0; k < COUNT(numbering); k++)
+        numbering[k] = 7;
+    return crout_order(n, plan, plan_len, trials, work, work_len, numbering, numbering_len, out);
+}
+
+/* Whether the numbering has these entries and then its sevens. */
+static int numbering_is(const uint32_t *entries, size_t count) {
+    size_t k;
+    for (k = 0; k < COUNT(numbering); k++)
+        if (numbering[k] != (k < count ? entries[k] : 7))
+            return 0;
+    return 1;
+}
+
+/* Whether a call was refused, and numbering and out are as they have to be then. */
+static int unordered(uint64_t returned, uint32_t number, uint32_t detail, const uint64_t out[3]) {
+    return returned == refusal(number, detail) && numbering_is(NULL, 0) && same_numbers(out, 0, 0, 0);
+}
+
+static void numberings(void) {
+    const uint32_t star[] = {1, 2, 3, 4, 5, 6, 7, 8, 13, 16}, given[] = {1, 2, 3, 4}, once[] = {2, 1, 3, 4}, twice[] = {2, 3, 1, 4};
+    const uint32_t slots_once[] = {1, 2, 0, 0, 3, 0, 0, 4, 5, 6, 7, 8, 9, 10, 11, 12, 7};
+    const uint32_t slots_twice[] = {1, 0, 2, 0, 0, 3, 0, 4, 5, 0, 6, 0, 7, 8, 9, 10, 7};
+    uint64_t out[3];
+    expect(ordered(4, star, 10, 2, 17, 4, out) == 0 && same_numbers(out, 10, 2, 0) && numbering_is(twice, 4), "R1, two trials");
+    expect(memcmp(work, slots_twice, sizeof slots_twice) == 0, "R4, the slots after two trials");
+    expect(ordered(4, star, 10, 1, 17, 4, out) == 0 && same_numbers(out, 12, 1, 2) && numbering_is(once, 4), "R1, one trial");
+    expect(memcmp(work, slots_once, sizeof slots_once) == 0, "R4, the slots after one trial");
+    expect(ordered(4, star, 10, 0, 17, 4, out) == 0 && same_numbers(out, 16, 0, 6) && numbering_is(given, 4), "no trial");
+    expect(ordered(4, star, 10, 1000, 17, 4, out) == 0 && same_numbers(out, 10, 1000, 0) && numbering_is(twice, 4), "1000 trials");
+    expect(memcmp(work, slots_twice, sizeof slots_twice) == 0, "the slots after 1000 trials");
+    expect(ordered(2, given, 3, 5, 5, 2, out) == 0 && same_numbers(out, 4, 5, 1) && numbering_is(given, 2), "R2, a pivot that is fill");
+    expect(work_is(1, 2, 3, 4), "R4, the slots where no exchange is kept");
+    expect(ordered(1, given, 1, 7, 1, 1, out) == 0 && same_numbers(out, 1, 0, 0) && numbering_is(given, 1), "R3, order 1");
+    expect(work[0] == 1 && work[1] == 7, "the slot of order 1");
+}
+
+static void numberings_refused(void) {
+    const uint32_t all[] = {1, 2, 3, 4}, sparse[] = {1, 2, 4}, no_pivot[] = {2, 3}, twice[] = {1, 1}, five[] = {5};
+    uint64_t out[3];
+    expect(unordered(ordered(601, all, 1, 5, 5, 2, out), 1, 0, out) && work_is(7, 7, 7, 7), "1 of a numbering");
+    expect(unordered(ordered(2, five, 1, 5, 3, 3, out), 2, 4, out) && work_is(7, 7, 7, 7), "2 before 3");
+    expect(unordered(ordered(2, five, 1, 5, 5, 3, out), 3, 1, out) && work_is(7, 7, 7, 7), "3 before 29");
+    expect(unordered(ordered(2, twice, 2, 5, 5, 3, out), 4, 2, out) && work_is(7, 7, 7, 7), "4 before 29");
+    expect(unordered(ordered(2, no_pivot, 2, 5, 5, 2, out), 5, 1, out) && work_is(0, 0, 0, 0), "R4, without the first pivot");
+    expect(unordered(ordered(2, no_pivot, 2, 5, 5, 3, out), 5, 1, out) && work_is(0, 0, 0, 0), "R3, 5 before 29");
+    expect(unordered(ordered(2, all, 3, 5, 5, 3, out), 29, 0, out) && work_is(1, 2, 3, 4), "R3 and R4, an entry too many");
+    expect(unordered(ordered(2, sparse, 3, 5, 5, 1, out), 29, 0, out) && work_is(1, 2, 0, 3), "29, an entry too few");
+    expect(unordered(ordered(1, all, 1, 0, 1, 0, out), 29, 0, out) && work[0] == 1 && work[1] == 7, "29, no entries");
+}
+
+#endif
 
 int main(void) {
     labels();
@@ -636,6 +698,10 @@ int main(void) {
 #endif
 #if GROUPS >= 9
     counts();
+#endif
+#if GROUPS >= 10
+    numberings();
+    numberings_refused();
 #endif
     return 0;
 }

@@ -1,5 +1,5 @@
-//! The compilers, the checker, the comparison with a plan, the search for a path, the count of plans, the runners and the file's writer and
-//! reader as one would write them in plain Rust, with the same checks and operations; and dense Crout.
+//! The compilers, the checker, the comparison with a plan, the search for a path, the count of plans, the trials for a better numbering, the
+//! runners and the file's writer and reader as one would write them in plain Rust, with the same checks and operations; and dense Crout.
 
 pub mod census;
 pub mod check;
@@ -9,6 +9,7 @@ pub mod compile;
 pub mod dense;
 pub mod file;
 pub mod many;
+pub mod order;
 pub mod path;
 pub mod run;
 pub mod sweep;

@@ -35,7 +35,7 @@ fn trace(table: &Table, plan: &[u32], work: &[u32], (i, j): (u32, u32), list: &m
 }
 
 /// The smallest h for which (i, h) and (h, j) are held.
-fn between(table: &Table, work: &[u32], i: usize, j: usize) -> usize {
+pub(super) fn between(table: &Table, work: &[u32], i: usize, j: usize) -> usize {
     let mut walk = Walk::new(table.n, i, j, table.start(i, j));
     while work[walk.lower] == 0 || work[walk.upper] == 0 {
         walk.advance();
@@ -44,6 +44,6 @@ fn between(table: &Table, work: &[u32], i: usize, j: usize) -> usize {
 }
 
 /// (2.8), for a place of the table.
-fn label(n: usize, i: usize, j: usize) -> u32 {
+pub(super) fn label(n: usize, i: usize, j: usize) -> u32 {
     (if i >= j { (j - 1) * (2 * n - j) + i } else { i * (2 * n - i) - n + j }) as u32
 }

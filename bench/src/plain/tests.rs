@@ -8,7 +8,7 @@ use crout_tests::random::Random;
 use crout_tests::reading::dense::At;
 use crout_tests::{programs, reading};
 
-use super::{Refusal, check, compact, compare, compile, dense, file, many, path, run};
+use super::{Refusal, check, compact, compare, compile, dense, file, many, order, path, run};
 
 /// A call that compiles: order, plan, work numbers and words.
 type Call<T> = fn(u32, &[u32], &mut [u32], &mut [u32]) -> Result<T, Refusal>;
@@ -310,4 +310,51 @@ fn the_same_refusals_and_paths() {
         }
     }
     assert_eq!(refused, BTreeSet::from([1, 2, 3, 4, 22, 23]));
+}
+
+/// How many of the reading's trials, which are all made, it takes until a whole round has kept nothing.
+fn until_settled(n: u32, tried: &[reading::order::Trial]) -> usize {
+    let round = (n as usize - 1).max(1);
+    let idle = tried.windows(round).position(|trials| trials.iter().all(|trial| !trial.is_kept));
+    idle.map_or(tried.len(), |before| before + round)
+}
+
+/// What the plain one should tell.
+fn as_ordered(n: u32, read: &reading::order::Ordered) -> order::Ordered {
+    let kept = read.tried.iter().filter(|trial| trial.is_kept).count() as u64;
+    let tried = until_settled(n, &read.tried) as u64;
+    order::Ordered { slots: read.slots, trials: read.trials, distance: read.distance, tried, kept }
+}
+
+/// Plans of small orders, where a pivot is more often fill, so that an exchange can lose it; and numberings of a wrong length.
+#[test]
+fn the_same_numbering() {
+    let random = &mut Random(13);
+    let (mut refused, mut kept, mut lost, mut settled) = (BTreeSet::new(), 0, 0, 0);
+    for _ in 0..10_000 {
+        let mut n = 1 + random.below(12) as u32;
+        let mut plan = networks::any(n, random);
+        let trials = random.below(4 * n as usize) as u32;
+        damage(&mut n, &mut plan, random);
+        let needed = (n * n) as usize;
+        let mut work = vec![7; if random.chance(0.1) { needed / 2 } else { needed + 1 }];
+        let mut numbering = vec![7; if random.chance(0.1) { random.below(14) } else { n as usize }];
+        let [mut read_work, mut filled_work] = [work.clone(), work.clone()];
+        let [mut read_numbering, mut filled_numbering] = [numbering.clone(), numbering.clone()];
+        let ordered = order::order(n, &plan, trials, &mut work, &mut numbering);
+        let filled = order::order_by_fill(n, &plan, trials, &mut filled_work, &mut filled_numbering);
+        let read = reading::order::order(n, &plan, trials, &mut read_work, &mut read_numbering);
+        match &read {
+            Ok(read) => lost += read.tried.iter().filter(|trial| !trial.is_accepted).count(),
+            Err((number, _)) => drop(refused.insert(*number)),
+        }
+        let told = read.map(|read| as_ordered(n, &read));
+        assert!(ordered == told && filled == told, "order {n}, {trials} trials, plan {plan:?}: {ordered:?}, {filled:?}");
+        assert!(work == read_work && filled_work == read_work, "order {n}, {trials} trials, plan {plan:?}");
+        assert!(numbering == read_numbering && filled_numbering == read_numbering, "order {n}, {trials} trials, plan {plan:?}");
+        kept += ordered.map_or(0, |ordered| ordered.kept);
+        settled += usize::from(ordered.is_ok_and(|ordered| 0 < ordered.kept && ordered.tried < ordered.trials));
+    }
+    assert_eq!(refused, BTreeSet::from([1, 2, 3, 4, 5, 29]));
+    assert!(kept > 2000 && lost > 200 && settled > 500, "{kept} kept, {lost} not accepted, {settled} settled");
 }

@@ -13,8 +13,10 @@ use Rattle.model.specs.File as File
 use Rattle.model.specs.File.{Filed, filed}
 use Rattle.model.specs.Dearest as Dearest
 use Rattle.model.specs.Dearest.{Costs, yes, no}
-use Rattle.model.specs.Boundary.{costsNumber, verdictNumber, compiledNumber, filedNumber, replyNumber, replyNumbers, limitNumbers}
-use Rattle.model.proofs.Small.{SmallVerdict, SmallCompiled, SmallFiled, SmallReply, SmallCosts}
+use Rattle.model.specs.Numbering as Numbering
+use Rattle.model.specs.Numbering.{Renumbering, numbered}
+use Rattle.model.specs.Boundary.{costsNumber, renumberingNumber, verdictNumber, compiledNumber, filedNumber, replyNumber, replyNumbers, limitNumbers}
+use Rattle.model.proofs.Small.{SmallVerdict, SmallCompiled, SmallFiled, SmallReply, SmallCosts, SmallRenumbering}
 
 -- an answer's number and its further numbers are those of what it equals: of the case that a match found, or of the model's value
 pub carried : {A : Type 0} (number : A → ℕ) (numbers : A → List ℕ) {a b : A} {r : ℕ} {out : List ℕ}
@@ -49,3 +51,7 @@ pub costs-fits : {b : ℕ} {answer v : Costs} → answer ≡ v → SmallCosts b 
 costs-fits {v = yes} same small h = rw same (omega arith)
 costs-fits {v = no} same small h = rw same (omega arith)
 costs-fits {v = Dearest.refused r d} same small h = rw same (omega arith)
+
+pub renumbering-fits : {b : ℕ} {answer v : Renumbering} → answer ≡ v → SmallRenumbering b v → b ≤ 2 ^ 63 → renumberingNumber answer < 2 ^ 64
+renumbering-fits {v = numbered s t d} same small h = rw same (omega arith)
+renumbering-fits {v = Numbering.refused r d} same small h = rw same (omega arith)

@@ -3,18 +3,20 @@ use checker::Checked;
 use codec::Filing;
 use compiler::Compilation;
 use costs::Costs;
+use ordering::Ordered;
 use paths::Traced;
 use runner::Outcome;
 ghost use mathlib.Core.Path.{_≡_};
 ghost use Prim.Native.Nat.{_<_, _^_};
 ghost use Rattle.model.specs.Boundary.{refusalNumber, verdictNumber, compiledNumber, compiledNumbers, filedNumber, filedNumbers};
-ghost use Rattle.model.specs.Boundary.{replyNumber, replyNumbers, limitNumbers, tracedNumbers, costsNumber};
+ghost use Rattle.model.specs.Boundary.{replyNumber, replyNumbers, limitNumbers, tracedNumbers, costsNumber, renumberingNumber, renumberingNumbers};
 ghost use Rattle.model.specs.Path.{tracedVerdict};
 ghost use Rattle.checker.specs.Checked.{verdictOf};
 ghost use Rattle.compiler.specs.Compilation.{compiledOf};
 ghost use Rattle.codec.specs.Filing.{filedOf};
 ghost use Rattle.paths.specs.Traced.{tracedOf};
 ghost use Rattle.costs.specs.Costed.{costsOf};
+ghost use Rattle.ordering.specs.Ordered.{orderedOf};
 ghost use Rattle.runner.specs.Outcome.{replyOf};
 
 // The refusal's number times 2^32 plus its detail.
@@ -100,6 +102,27 @@ pub fn costs_answer(answer: Costs) -> u64
         Costs::Yes => 1,
         Costs::No => 0,
         Costs::Refused { number, detail } => refusal(number, detail),
+    }
+}
+
+// A numbering's answer: its slots, the trials made and the distance.
+pub fn order_answer(answer: Ordered, out: &mut [u64; 3]) -> u64
+    requires { ⌜ renumberingNumber (orderedOf answer) < 2 ^ 64 ⌝ }
+    ensures { λ r. ⌜ (r ≡ renumberingNumber (orderedOf answer)) × (now (out .exit) ≡ renumberingNumbers (orderedOf answer)) ⌝ }
+{
+    match answer {
+        Ordered::Numbered {
+            slots,
+            trials,
+            distance,
+        } => {
+            *out = [slots as u64, trials as u64, distance as u64];
+            0
+        }
+        Ordered::Refused { number, detail } => {
+            *out = [0, 0, 0];
+            refusal(number, detail)
+        }
     }
 }
 

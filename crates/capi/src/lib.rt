@@ -1,8 +1,9 @@
-// The functions exported for C: document 01, "The C boundary"; document 02, A.1, A.2, A.6, A.7, A.10, A.11, A.13 and A.14. The header is include/crout.h.
+// The functions exported for C: document 01, "The C boundary"; document 02, A.1, A.2, A.6, A.7 and A.10 to A.14. The header is include/crout.h.
 use answers::compile_answer;
 use answers::costs_answer;
 use answers::file_answer;
 use answers::limit_answer;
+use answers::order_answer;
 use answers::path_answer;
 use answers::run_answer;
 use answers::verdict_answer;
@@ -17,6 +18,7 @@ ghost use Rattle.model.specs.Compare.{compares, workCompared};
 ghost use Rattle.model.specs.Path.{tracing, workTraced};
 ghost use Rattle.model.specs.Dearest.{costs, workCosted};
 ghost use Rattle.model.specs.Census.{countable, planCounts};
+ghost use Rattle.model.specs.Numbering.{renumbers, renumberedWork, numberingAfter};
 ghost use Rattle.model.specs.Formula.{C, Y, X};
 ghost use Rattle.model.specs.Many.{ranMany, verdict, replies, leavesMany};
 ghost use Rattle.model.specs.Run.{ran, reply, leaves};
@@ -24,7 +26,7 @@ ghost use Rattle.model.specs.Solve.{solving, replied, leftIn};
 ghost use Rattle.model.specs.File.{writes, reads, bytesAfter, wordsAfter};
 ghost use Rattle.model.specs.Boundary.{labelNumber, placeNumber, checkNumber, verdictNumber, manyNumbers};
 ghost use Rattle.model.specs.Boundary.{compiledNumber, compiledNumbers, filedNumber, filedNumbers};
-ghost use Rattle.model.specs.Boundary.{replyNumber, replyNumbers, limitNumbers, Told, costsNumber};
+ghost use Rattle.model.specs.Boundary.{replyNumber, replyNumbers, limitNumbers, Told, costsNumber, renumberingNumber, renumberingNumbers};
 
 // The label of (i, j) in a table of order n; 0 if any of the three is out of range.
 #[no_mangle]
@@ -150,6 +152,25 @@ pub extern "C" fn crout_count_plans(n: u32, out: &mut [u64; 5]) -> u64
     ensures out { λ r. ⌜ now (out .exit) ≡ planCounts n ⌝ }
 {
     verdict_answer(census::count_plans(n, out))
+}
+
+// A numbering of the unknowns of a plan of order n by which it needs no more slots, by so many trials. out: slots, trials made, distance.
+#[no_mangle]
+pub extern "C" fn crout_order(
+    n: u32,
+    plan: &[u32],
+    trials: u32,
+    work: &mut [u32],
+    numbering: &mut [u32],
+    out: &mut [u64; 3],
+) -> u64
+    ensures answer { λ r. ⌜ r ≡ renumberingNumber (renumbers n (now (plan .entry)) trials (length (now (work .entry))) (length (now (numbering .entry)))) ⌝ }
+    ensures work { λ r. ⌜ now (work .exit) ≡ renumberedWork n (now (plan .entry)) trials (now (work .entry)) (length (now (numbering .entry))) ⌝ }
+    ensures numbering { λ r. ⌜ now (numbering .exit) ≡ numberingAfter n (now (plan .entry)) trials (length (now (work .entry))) (now (numbering .entry)) ⌝ }
+    ensures numbers { λ r. ⌜ now (out .exit)
+        ≡ renumberingNumbers (renumbers n (now (plan .entry)) trials (length (now (work .entry))) (length (now (numbering .entry)))) ⌝ }
+{
+    order_answer(ordering::order(n, plan, trials, work, numbering), out)
 }
 
 // Writes words as a program file. out: the bytes written.

@@ -1,4 +1,4 @@
 -- The laws that the proofs of `labels` share.
 pub mod Range
-pub mod Batch
+pub mod Seeking
 pub mod Round

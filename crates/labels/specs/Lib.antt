@@ -1,1 +1,3 @@
+-- What the contracts of `labels` cite.
 pub mod Located
+pub mod Batches

@@ -7,12 +7,26 @@ ghost use Rattle.model.specs.Label.{isLabel, sought, at};
 ghost use Rattle.model.specs.Label.{label as Label·label};
 ghost use Rattle.model.specs.Label.{place as Label·place};
 ghost use Rattle.model.specs.Boundary.{labelNumber};
+ghost use Rattle.model.proofs.Labels.{Inside};
 ghost use Rattle.labels.specs.Located.{soughtOf, placed};
+ghost use Rattle.labels.specs.Batches.{Reaches, Holds};
 
 // The place of a label, its row and its column, or that there is none.
 pub enum Located {
     At(u32, u32),
     Outside,
+}
+
+// A batch of the table, column m from the diagonal down and then row m right of it: its number m, and the labels before it.
+pub struct Batch {
+    pub number: u32,
+    pub before: u32,
+}
+
+// A place of the table, by row and column.
+pub struct Entry {
+    pub row: u32,
+    pub column: u32,
 }
 
 // The label of (i, j) in a table of order n; 0 if any of the three is out of range.
@@ -49,24 +63,56 @@ pub fn place(n: u32, k: u32) -> Located
     }
 }
 
-// The place of a label in range: the batch m that holds it, and there the column or the row.
+// The place of a label in range.
 fn place_within(n: u32, k: u32) -> Located
     requires { ⌜ ((0 < n) × (n ≤ 600)) × ((0 < k) × (k ≤ n * n)) ⌝ }
     ensures { λ r. ⌜ soughtOf r ≡ at (Label·place n k) ⌝ }
 {
-    let mut m = 1;
-    let mut left = k;
-    let mut size = 2 * n - 1;
+    let first = Batch {
+        number: 1,
+        before: 0,
+    };
+    let place = place_in(n, k, batch_of(n, k, first));
+    Located::At(place.row, place.column)
+}
+
+// The batch that has a label, sought from one that isn't past it.
+pub fn batch_of(n: u32, k: u32, from: Batch) -> Batch
+    requires { ⌜ ((n ≤ 600) × (k ≤ n * n)) × Reaches n k from ⌝ }
+    ensures { λ r. ⌜ Holds n k r ⌝ }
+{
+    let mut number = from.number;
+    let mut left = k - from.before;
+    let mut size = 2 * (n - number) + 1;
     while size < left {
         left -= size;
         size -= 2;
-        m += 1;
+        number += 1;
     }
+    Batch {
+        number,
+        before: k - left,
+    }
+}
+
+// The place of a label of a batch, in its column or in its row.
+pub fn place_in(n: u32, k: u32, batch: Batch) -> Entry
+    requires { ⌜ (n ≤ 600) × Holds n k batch ⌝ }
+    ensures { λ r. ⌜ Inside n (r .row) (r .column) × (Label·label n (r .row) (r .column) ≡ k) ⌝ }
+{
+    let m = batch.number;
+    let left = k - batch.before;
     let rows = n - m + 1;
     if left <= rows {
-        Located::At(m + left - 1, m)
+        Entry {
+            row: m + left - 1,
+            column: m,
+        }
     } else {
-        Located::At(m, m + left - rows)
+        Entry {
+            row: m,
+            column: m + left - rows,
+        }
     }
 }
 

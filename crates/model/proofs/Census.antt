@@ -1,11 +1,10 @@
 -- The sets of labels are the plans, and each is counted once: document 02, A.13.
 use Prim.Native.Nat.{ℕ, zero, suc, _+_, _-_, _*_, _/_, _%_, _^_, _≤_, _<_}
-use native.Mathlib.Nat.{zero-add, mod-eq-of-lt, mod-lt, mod-one, eq-or-lt-of-le}
+use native.Mathlib.Nat.{zero-add, mod-eq-of-lt, mod-lt, mod-one}
 use native.Mathlib.Omega.{arith}
 use mathlib.Core.Path.{_≡_, refl, sym, ap, _∙_}
 use mathlib.Core.Bool.{Bool, true, false, cond}
 use mathlib.Core.List.{List, [], _∷_, _++_, map, append-nil, List·Memᴰ, List·Memᴰ·head, List·Memᴰ·tail, Memᴰ·append-left, Memᴰ·append-right, Memᴰ·cast}
-use mathlib.Core.Logic.{⊎-elim}
 use borrow.Author.Tests.{eqb-true, eqb-false, eq-eqb, ne-eqb}
 use lib.Dec.{eqb}
 use lib.ListN.{length, getD}
@@ -17,7 +16,7 @@ use Rattle.model.specs.Path.{named}
 use Rattle.model.specs.Census.{sets, plans, plansMissing, planCounts, SetsArePlans, NoneAbove, CountedOnce}
 use Rattle.model.proofs.Lists.{Each, rising-each, getD-rising, length-rising}
 use Rattle.model.proofs.Search.{kept-none}
-use Rattle.model.proofs.Sums.{rising-same, rising-constant}
+use Rattle.model.proofs.Sums.{rising-constant, rising-but-one}
 use Rattle.model.proofs.Within.{within-range}
 use Rattle.model.proofs.Plans.{missing-free}
 use Rattle.model.proofs.Named.{row, labels-past, kept-judged, kept-named}
@@ -118,23 +117,15 @@ pub none-above : NoneAbove
 unfolding plansMissing
 none-above N m h = ap length (kept-none (λ L. eqb (missing N L) m) (plans N) (λ L x. ne-eqb (missing N L) m (λ e. omega (arith, missing-at-most N L))))
 
--- one more at e
-one-up : (v w : ℕ → ℕ) (e a n : ℕ) → ((k : ℕ) → (k ≡ e → ⊥) → w k ≡ v k) → w e ≡ suc (v e) → a ≤ e → e < a + n
-    → total (rising w a n) ≡ suc (total (rising v a n))
-unfolding total rising
-one-up v w e a zero same p low high = absurd (omega arith)
-one-up v w e a (suc n) same p low high = ⊎-elim
-    (λ q. let here : w a ≡ suc (v a) = rw (← q) at p in omega (arith, rising-same w v (suc a) n (λ k l h. same k (λ z. omega arith))))
-    (λ q. let here = same a (λ z. omega arith) in omega (arith, one-up v w e (suc a) n same p q (omega arith))) (eq-or-lt-of-le low)
-
 -- the elements of a list, parted by a number below n
 parted : {A : Type 0} (f : A → ℕ) (n : ℕ) (l : List A) → ((x : A) → f x < n) → total (rising (λ m. length (kept (λ x. eqb (f x) m) l)) 0 n) ≡ length l
 unfolding kept
 parted f n [] h = rising-constant (λ m. 0) 0 0 n (λ k low high. refl) ∙ omega arith
 parted f n (x ∷ l) h =
-    one-up (λ m. length (kept (λ x. eqb (f x) m) l)) (λ m. length (kept (λ x. eqb (f x) m) (x ∷ l))) (f x) 0 n
-    (λ k z. rw (ne-eqb (f x) k (λ q. z (sym q)))) (rw (eq-eqb (f x) (f x) refl)) (omega arith) (omega (arith, h x))
-    ∙ ap suc (parted f n l h)
+    let counts : ℕ → ℕ = λ m. length (kept (λ x. eqb (f x) m) l) in
+    let more = rising-but-one counts (λ m. length (kept (λ x. eqb (f x) m) (x ∷ l))) (f x) 0 n (λ k low high z. rw (ne-eqb (f x) k (λ q. z (sym q)))) (omega arith) (omega (arith, h x)) in
+    let here : length (kept (λ y. eqb (f y) (f x)) (x ∷ l)) ≡ suc (counts (f x)) = rw (eq-eqb (f x) (f x) refl) in
+    omega (arith, parted f n l h)
 
 pub counted-once : CountedOnce
 unfolding planCounts plansMissing plans

@@ -65,7 +65,7 @@ pub named-cases : (x e : ℕ) (es : List ℕ) → named x (e ∷ es) ≡ true �
 unfolding named
 named-cases x e es p = ⊎-elim (λ q. inl (sym (eqb-true e x q))) inr (or-cases (eqb e x) (named x es) p)
 
-named-append : (x : ℕ) (xs ys : List ℕ) → named x (xs ++ ys) ≡ (named x xs || named x ys)
+pub named-append : (x : ℕ) (xs ys : List ℕ) → named x (xs ++ ys) ≡ (named x xs || named x ys)
 unfolding named
 named-append x [] ys = refl
 named-append x (e ∷ xs) ys = step (eqb e x) (named-append x xs ys)
@@ -315,7 +315,7 @@ one-more t u e (suc n) same p q low high = ⊎-elim
     step false = refl
 
 -- as many numbers of 1..n are named as there are entries, where these are all different and in 1..n
-named-count : (n : ℕ) (es : List ℕ) → distinct es ≡ true → ((x : ℕ) → named x es ≡ true → (1 ≤ x) × (x ≤ n)) → count (λ k. named k es) n ≡ length es
+pub named-count : (n : ℕ) (es : List ℕ) → distinct es ≡ true → ((x : ℕ) → named x es ≡ true → (1 ≤ x) × (x ≤ n)) → count (λ k. named k es) n ≡ length es
 unfolding distinct named
 named-count n [] d inside = count-none (λ k. false) n (λ k low high. refl)
 named-count n (e ∷ es) d inside =

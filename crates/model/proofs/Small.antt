@@ -1,5 +1,5 @@
 -- Refusals are small: a number of at most 30 and a detail that is at most a record count, a length or a number of records, so both fit one 64-bit number.
-use Prim.Native.Nat.{ℕ, zero, suc, _+_, _*_, _/_, _%_, _≤_}
+use Prim.Native.Nat.{ℕ, zero, suc, _+_, _-_, _*_, _/_, _%_, _≤_}
 use mathlib.Core.Path.{_≡_, refl, sym}
 use mathlib.Core.Bool.{Bool, true, false, cond, _&&_}
 use mathlib.Core.List.{List, [], _∷_, map}
@@ -32,6 +32,8 @@ use Rattle.model.specs.Path.{tracing}
 use Rattle.model.specs.Dearest as Dearest
 use Rattle.model.specs.Dearest.{Costs, fullPlan, costs}
 use Rattle.model.specs.Census.{countable}
+use Rattle.model.specs.Numbering as Numbering
+use Rattle.model.specs.Numbering.{Renumbering, numbered, renumbered, trialsMade, keptNumbering, numberingChecks, renumbers}
 use Rattle.model.specs.Solve.{replied}
 use Rattle.model.specs.File as File
 use Rattle.model.specs.File.{Filed, filed, writes, reads, wordsOf, checkFile}
@@ -336,6 +338,25 @@ costs-small N L work = go (admits plain N L work) (eqb (productCount N L) (produ
     go (bad r d) most plan = plan r d refl
     go good true plan = tt
     go good false plan = tt
+
+abbrev pub SmallRenumbering : ℕ → Renumbering → Type 0
+SmallRenumbering b (numbered s trials distance) = Unit {0}
+SmallRenumbering b (Numbering.refused r d) = Small b r d
+
+pub renumbers-small : (N : ℕ) (L : Plan) (trials work numbering : ℕ) → SmallRenumbering (100000000 + length L) (renumbers N L trials work numbering)
+unfolding renumbers numberingChecks
+renumbers-small N L trials work numbering =
+    go (admits plain N L work) (eqb numbering N) (slots N (renumbered N L (keptNumbering N L trials))) (admits-small N L work)
+  where
+    go : (a : Labels) (same : Bool) (s : ℕ) → ((r d : ℕ) → a ≡ bad r d → Small (100000000 + length L) r d)
+        → SmallRenumbering (100000000 + length L)
+        (elim (elim a as (λ a. Verdict) [
+          | bad r d ↦ Check.refusal r d
+          | good ↦ elim same as (λ b. Verdict) [ false ↦ Check.refusal 29 0 | true ↦ fine ]
+        ]) as (λ v. Renumbering) [ Check.refusal r d ↦ Numbering.refused r d | fine ↦ numbered s (trialsMade N trials) (s - length L) ])
+    go (bad r d) same s plan = plan r d refl
+    go good false s plan = omega arith
+    go good true s plan = tt
 
 -- ---- counting plans: 30
 

@@ -31,6 +31,22 @@ use Rattle.model.specs.Path.{named, distinct, leads, isPath, tracing, wo
 use Rattle.model.specs.Dearest as Dearest
 use Rattle.model.specs.Dearest.{yes, no, fullPlan, costs, workCosted, mostProducts}
 use Rattle.model.specs.Census.{sets, plans, plansMissing, countable, planCounts}
+use Rattle.model.specs.Numbering as Numbering
+use Rattle.model.specs.Numbering.{
+  givenNumbering,
+  renumbered,
+  exchanged,
+  turn,
+  tried,
+  afterTrials,
+  trialsMade,
+  keptNumbering,
+  numberingChecks,
+  numbered,
+  renumbers,
+  numberingAfter,
+  renumberedWork,
+}
 use Rattle.model.specs.Marked.{Placed, solvedAs, refusedAt, valueAt, placed, productsMade}
 
 abbrev int : ℕ → Float
@@ -87,6 +103,10 @@ full₂ = 1 ∷ 2 ∷ 3 ∷ 4 ∷ []
 
 abbrev one : Plan
 one = 1 ∷ []
+
+-- four rooms, of which the first touches the others
+abbrev star : Plan
+star = 1 ∷ 2 ∷ 3 ∷ 4 ∷ 5 ∷ 6 ∷ 7 ∷ 8 ∷ 13 ∷ 16 ∷ []
 
 -- the diagonal of order 2, seven places of order 4, and all places of order N
 abbrev diagonal₂ : Plan
@@ -366,6 +386,13 @@ pub record Known : Type 0 where
   -- A.13: the handbook's counts up to order 3, and 30
   h1 : (planCounts 1 ≡ 1 ∷ 1 ∷ 0 ∷ 0 ∷ 0 ∷ []) × (planCounts 2 ≡ 5 ∷ 8 ∷ 3 ∷ 0 ∷ 0 ∷ []) × (planCounts 3 ≡ 121 ∷ 256 ∷ 96 ∷ 39 ∷ 0 ∷ [])
   h2 : (countable 4 ≡ fine) × (countable 0 ≡ Check.refusal 30 0) × (countable 5 ≡ Check.refusal 30 0) × (planCounts 5 ≡ replicate 5 0)
+  -- A.12: a star of four rooms whose middle comes first; an exchange that would miss a pivot; order 1, 29 and 5; what is left after 29 and 5
+  r1 : (renumbers 4 star 2 16 4 ≡ numbered 10 2 0) × (keptNumbering 4 star 2 ≡ 2 ∷ 3 ∷ 1 ∷ 4 ∷ [])
+      × (renumbers 4 star 1 16 4 ≡ numbered 12 1 2) × (keptNumbering 4 star 1 ≡ 2 ∷ 1 ∷ 3 ∷ 4 ∷ [])
+  r2 : (renumbers 2 (1 ∷ 2 ∷ 3 ∷ []) 5 4 2 ≡ numbered 4 5 1) × (keptNumbering 2 (1 ∷ 2 ∷ 3 ∷ []) 5 ≡ 1 ∷ 2 ∷ [])
+  r3 : (renumbers 1 one 7 1 1 ≡ numbered 1 0 0) × (renumbers 2 (1 ∷ 2 ∷ 3 ∷ []) 5 4 3 ≡ Numbering.refused 29 0) × (renumbers 2 (2 ∷ 3 ∷ []) 5 4 3 ≡ Numbering.refused 5 1)
+  r4 : (renumberedWork 2 (1 ∷ 2 ∷ 3 ∷ []) 5 (replicate 5 9) 3 ≡ 1 ∷ 2 ∷ 3 ∷ 4 ∷ 9 ∷ []) × (numberingAfter 2 (1 ∷ 2 ∷ 3 ∷ []) 5 4 (7 ∷ 7 ∷ 7 ∷ []) ≡ 7 ∷ 7 ∷ 7 ∷ [])
+      × (renumberedWork 2 (2 ∷ 3 ∷ []) 5 (replicate 5 9) 2 ≡ 0 ∷ 0 ∷ 0 ∷ 0 ∷ 9 ∷ [])
   -- the listing for input `1 1`, a record a line
   listing : compiled 1 one
       ≡ 1 ∷ 1 ∷ 1 ∷ 1
@@ -392,6 +419,7 @@ unfolding rising falling joined kept total some count label column row places pl
     step follow followed notFinite checkValues sweptOver ran reply leaves
     parts ranMany readBy read replies sharedC leavesMany sameRecord compared compares workCompared seen valueAt placed productsMade
     isPlace inPlan named distinct leads isPath tracing workTraced fullPlan costs workCosted mostProducts sets plans plansMissing countable planCounts
+    givenNumbering renumbered exchanged turn tried afterTrials trialsMade keptNumbering numberingChecks renumbers numberingAfter renumberedWork
     mul sub div neg lt eq le ofInt
 known = record {
   p1 = (refl, refl, refl, refl, refl, refl);
@@ -452,5 +480,9 @@ known = record {
   d4 = (refl, refl);
   h1 = (refl, refl, refl);
   h2 = (refl, refl, refl, refl);
+  r1 = (refl, refl, refl, refl);
+  r2 = (refl, refl);
+  r3 = (refl, refl, refl);
+  r4 = (refl, refl, refl);
   listing = refl;
 }

@@ -13,7 +13,8 @@ use Rattle.model.specs.Path.{Shown}
 use Rattle.model.proofs.Lists.{drop-later}
 use Rattle.model.specs.Route.{leg, route, middle}
 use Rattle.model.proofs.Route.{between, leg-some, leg-planned, leg-between, held-path, path-fits}
-use Rattle.paths.specs.Trail.{Leads, Legs, none, next, ahead, left, On, Onward}
+use Rattle.plans.specs.Stands.{Leads}
+use Rattle.paths.specs.Trail.{Legs, none, next, ahead, left, On, Onward}
 use Rattle.paths.specs.declared.Trail.{Trail}
 
 module _ (N : ℕ) (L : Plan) where

@@ -10,29 +10,8 @@ use Rattle.model.specs.Fill.{Plan, inPlan, held}
 use Rattle.model.specs.Compile.{judged, good}
 use Rattle.model.proofs.Labels.{Inside}
 use Rattle.model.specs.Route.{leg}
-use Rattle.slots.specs.Skips.{Skips}
+use Rattle.plans.specs.Stands.{Leads}
 use Rattle.paths.specs.declared.Trail.{Trail}
-
--- a plan that 1 to 4 let through, with its slots in the work numbers
-pub record Slotted (N : ℕ) (L : Plan) (work inRows inColumns : List ℕ) : Type 0 where
-  pub low : 1 ≤ N
-  pub high : N ≤ 600
-  pub rises : judged N 0 1 L ≡ good
-  pub room : N * N ≤ length work
-  pub stands : (i j : ℕ) → Inside N i j → ltb 0 (getD work (label N i j - 1) 0) ≡ held N L i j
-  pub row-count : length inRows ≡ 601
-  pub column-count : length inColumns ≡ 601
-  pub skips : Skips N L (N * N) inRows inColumns
-
--- a place of the table that is held
-pub record Leads (N : ℕ) (L : Plan) (i j : ℕ) : Type 0 where
-  pub inside : Inside N i j
-  pub holds : held N L i j ≡ true
-
--- one that is not in the plan
-pub record Filled (N : ℕ) (L : Plan) (i j : ℕ) : Type 0 where
-  pub leads : Leads N L i j
-  pub free : inPlan N L i j ≡ false
 
 -- from a to each of these entries in turn
 pub data Legs (N : ℕ) (L : Plan) : ℕ → List ℕ → Type 0 where

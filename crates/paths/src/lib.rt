@@ -1,5 +1,4 @@
 // Why a place is held: a path through places of the plan. Document 02, A.2.
-use numbers::larger;
 use numbers::wide;
 use plans::Judged;
 ghost use mathlib.Core.Path.{_≡_};
@@ -9,13 +8,11 @@ ghost use lib.Dec.{ltb};
 ghost use lib.ListN.{length, getD};
 ghost use Rattle.model.specs.Label.{isPlace};
 ghost use Rattle.model.specs.Label.{label as Label·label};
-ghost use Rattle.model.specs.Fill.{inPlan};
-ghost use Rattle.model.specs.Compile.{judged, good, orderly};
+ghost use Rattle.model.specs.Compile.{good, orderly};
 ghost use Rattle.model.specs.Path.{Traces, workTraced, Shown};
-ghost use Rattle.model.specs.Route.{middle};
-ghost use Rattle.model.proofs.Labels.{Inside};
 ghost use Rattle.paths.specs.Traced.{tracedOf};
-ghost use Rattle.paths.specs.Trail.{Slotted, Leads, Filled, On, Onward};
+ghost use Rattle.plans.specs.Stands.{Stands, Leads};
+ghost use Rattle.paths.specs.Trail.{On, Onward};
 
 // The number of a path's entries, or a refusal and its detail.
 pub enum Traced {
@@ -89,7 +86,7 @@ fn trace(
     j: u32,
     list: &mut [u32],
 ) -> u32
-    requires { ⌜ Slotted n (now plan) (now work) (now rows) (now columns) ⌝ }
+    requires { ⌜ Stands n (now plan) (now work) (now rows) (now columns) ⌝ }
     requires { ⌜ Leads n (now plan) i j ⌝ }
     requires { ⌜ n < length (now list) ⌝ }
     ensures { λ r. ⌜ Shown n (now (plan .entry)) i j r (now (list .entry)) (now (list .exit)) ⌝ }
@@ -120,7 +117,7 @@ fn go_on(
     stack: &mut [u32],
     trail: Trail,
 ) -> Trail
-    requires { ⌜ Slotted n (now plan) (now work) (now rows) (now columns) ⌝ }
+    requires { ⌜ Stands n (now plan) (now work) (now rows) (now columns) ⌝ }
     requires { ⌜ On n (now plan) (now list) (now stack) trail ⌝ }
     requires { ⌜ trail .next < 601 ⌝ }
     ensures { λ r. ⌜ Onward n (now (plan .entry)) (now (list .entry)) (now (stack .entry)) trail (now (list .exit)) (now (stack .exit)) r ⌝ }
@@ -129,7 +126,7 @@ fn go_on(
     let count = trail.count;
     let next = trail.next;
     let to = stack[next];
-    if is_planned(n, plan, last, to) {
+    if plans::is_planned(n, plan, last, to) {
         list[count] = to;
         return Trail {
             last: to,
@@ -137,50 +134,10 @@ fn go_on(
             next: next + 1,
         };
     }
-    stack[next - 1] = between(n, plan, work, rows, columns, last, to);
+    stack[next - 1] = plans::between(n, work, rows, columns, last, to);
     Trail {
         last,
         count,
         next: next - 1,
     }
-}
-
-// The smallest h for which (i, h) and (h, j) are held. There is one, since (i, j) is held and not in the plan.
-fn between(n: u32, plan: &[u32], work: &[u32], rows: &[u32], columns: &[u32], i: u32, j: u32) -> u32
-    requires { ⌜ Slotted n (now plan) (now work) (now rows) (now columns) ⌝ }
-    requires { ⌜ Filled n (now plan) i j ⌝ }
-    ensures { λ r. ⌜ r ≡ middle n (now (plan .entry)) i j ⌝ }
-{
-    let mut h = larger(1, larger(rows[wide(i)], columns[wide(j)]));
-    let mut low = wide(labels::label(n, i, h) - 1);
-    let mut high = wide(labels::label(n, h, j) - 1);
-    // h = min { h : held(i, h) and held(h, j) }; low and high are the labels of (i, h) and (h, j), less 1
-    while !slots::both_used(work, low, high) {
-        let left = wide(n - h);
-        low += left + left;
-        high += left + left - 1;
-        h += 1;
-    }
-    h
-}
-
-// Whether (i, j) is in the plan, by halves: its labels rise.
-fn is_planned(n: u32, plan: &[u32], i: u32, j: u32) -> bool
-    requires { ⌜ (n ≤ 600) × (judged n 0 1 (now plan) ≡ good) ⌝ }
-    requires { ⌜ Inside n i j ⌝ }
-    ensures { λ r. ⌜ r ≡ inPlan n (now (plan .entry)) i j ⌝ }
-{
-    let k = labels::label(n, i, j);
-    let mut low = 0;
-    let mut high = plan.len();
-    // plan(1..low) < k <= plan(high + 1..)
-    while low < high {
-        let half = low + (high - low) / 2;
-        if plan[half] < k {
-            low = half + 1;
-        } else {
-            high = half;
-        }
-    }
-    low < plan.len() && plan[low] == k
 }

@@ -1,2 +1,5 @@
 -- The laws that the proofs of `plans` share.
 pub mod Wanted
+pub mod Places
+pub mod Middle
+pub mod Standing

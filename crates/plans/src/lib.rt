@@ -1,4 +1,5 @@
 // A plan's checks 1 to 5 and its slots, for every call that takes a plan: document 01, "Fill and slots" and "Where each refusal is checked".
+use numbers::larger;
 use numbers::wide;
 use numbers::within;
 use slots::Filled;
@@ -8,9 +9,12 @@ ghost use lib.ListN.{length, replicate};
 ghost use mathlib.Core.Bool.{true};
 ghost use Rattle.model.specs.Label.{isOrder};
 ghost use Rattle.model.specs.Compile.{judged, good, orderly};
+ghost use Rattle.model.specs.Fill.{inPlan};
+ghost use Rattle.model.proofs.Labels.{Inside};
 ghost use Rattle.slots.specs.Walked.{FillsPlan};
 ghost use Rattle.plans.specs.Judge.{labelsOf};
 ghost use Rattle.plans.specs.Slotted.{Slotted};
+ghost use Rattle.plans.specs.Stands.{Sought, Smallest};
 
 // No check refuses the plan, or the number of the one that does and its detail.
 pub enum Judged {
@@ -98,4 +102,44 @@ pub fn slot(
         slots::clear(work, wide(each * (n * n)));
     }
     filled
+}
+
+// The smallest h for which (i, h) and (h, j) are held, where a plan's slots stand in the work numbers. There is one, since (i, j) is held and not in
+// the plan.
+pub fn between(n: u32, work: &[u32], rows: &[u32], columns: &[u32], i: u32, j: u32) -> u32
+    requires { ⌜ Sought n (now work) (now rows) (now columns) i j ⌝ }
+    ensures { λ r. ⌜ Smallest n (now (work .entry)) (now (rows .entry)) (now (columns .entry)) i j r ⌝ }
+{
+    let mut h = larger(1, larger(rows[wide(i)], columns[wide(j)]));
+    let mut low = wide(labels::label(n, i, h) - 1);
+    let mut high = wide(labels::label(n, h, j) - 1);
+    // h = min { h : held(i, h) and held(h, j) }; low and high are the labels of (i, h) and (h, j), less 1
+    while !slots::both_used(work, low, high) {
+        let left = wide(n - h);
+        low += left + left;
+        high += left + left - 1;
+        h += 1;
+    }
+    h
+}
+
+// Whether (i, j) is in the plan, by halves: its labels rise.
+pub fn is_planned(n: u32, plan: &[u32], i: u32, j: u32) -> bool
+    requires { ⌜ (n ≤ 600) × (judged n 0 1 (now plan) ≡ good) ⌝ }
+    requires { ⌜ Inside n i j ⌝ }
+    ensures { λ r. ⌜ r ≡ inPlan n (now (plan .entry)) i j ⌝ }
+{
+    let k = labels::label(n, i, j);
+    let mut low = 0;
+    let mut high = plan.len();
+    // plan(1..low) < k <= plan(high + 1..)
+    while low < high {
+        let half = low + (high - low) / 2;
+        if plan[half] < k {
+            low = half + 1;
+        } else {
+            high = half;
+        }
+    }
+    low < plan.len() && plan[low] == k
 }

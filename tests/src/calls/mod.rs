@@ -33,6 +33,7 @@ pub mod costs;
 pub mod file;
 pub mod labels;
 pub mod many;
+pub mod order;
 pub mod path;
 pub mod run;
 

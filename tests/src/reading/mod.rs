@@ -9,6 +9,7 @@ pub mod dense;
 pub mod file;
 pub mod labels;
 pub mod many;
+pub mod order;
 pub mod path;
 pub mod plan;
 pub mod run;

@@ -7,6 +7,7 @@ use borrow.Author.Needs.{needs}
 use denote.Ref.{now}
 use lib.ListN.{getD}
 use Rattle.model.specs.Fill.{inPlan}
+use Rattle.plans.specs.Stands.{Filled}
 use Rattle.paths.proofs.Trails.{leads-here, room, reached, deep-enough, pushed}
 use Rattle.paths.proofs.go_on.Statement.{statement}
 use Rattle.paths.proofs.go_on.Tie as tie
@@ -18,6 +19,9 @@ entry c = c .before .before .before .before .before .before .before .before
 -- the plan does not lead there
 free : (c : tie.Else1) → let a = entry (c .before) .args in inPlan (a .n) (now (a .plan)) (a .trail .last) (getD (now (a .stack)) (a .trail .next) 0) ≡ false
 free c = sym (c .before .is-planned .ensures) ∙ c .if1 .left
+
+filled : (c : tie.Else1) → let a = entry (c .before) .args in Filled (a .n) (now (a .plan)) (a .trail .last) (getD (now (a .stack)) (a .trail .next) 0)
+filled c = let p = entry (c .before) .pre in record { leads = leads-here (p .1 .0) (p .1 .1); free = free c }
 
 low : (c : tie.After-between) → 2 ≤ entry (c .before .before) .args .trail .next
 low c = let p = entry (c .before .before) .pre in deep-enough (p .1 .0) (p .1 .1) (free (c .before))
@@ -52,7 +56,7 @@ returns : tie.Need-returns
 returns c = let p = entry (c .before) .pre in reached (p .1 .0) (p .1 .1) (sym (c .before .is-planned .ensures) ∙ c .if1 .taken)
 
 between-requires : tie.Need-between-requires
-between-requires c κs = let p = entry (c .before) .pre in (p .0, record { leads = leads-here (p .1 .0) (p .1 .1); free = free c })
+between-requires c κs = record { plan = _; stands = entry (c .before) .pre .0; filled = filled c }
 
 sub-stack : tie.Need-sub-stack
 sub-stack c = omega (arith, low c)
@@ -70,7 +74,9 @@ same-length-2 : tie.Need-same-length-2
 same-length-2 c = search needs
 
 returns-2 : tie.Need-returns-2
-returns-2 c = let p = entry (c .before .before) .pre in pushed (p .1 .0) (p .1 .1) (free (c .before)) (c .between .ensures)
+returns-2 c =
+    let p = entry (c .before .before) .pre in
+    pushed (p .1 .0) (p .1 .1) (free (c .before)) (c .between .ensures _ (p .0) (filled (c .before)))
 
 pub go-on-spec : {M : Type 1} → statement M
 go-on-spec =

@@ -8,7 +8,7 @@ use borrow.Author.Tests.{le-ltb}
 use Rattle.model.specs.Label.{isPlace, label}
 use Rattle.model.proofs.Labels.{label-range}
 use Rattle.labels.proofs.Range.{isPlace-true}
-use Rattle.paths.proofs.Places.{labelled, unlabelled}
+use Rattle.plans.proofs.Places.{labelled, unlabelled}
 use Rattle.paths.proofs.is_held.Statement.{statement}
 use Rattle.paths.proofs.is_held.Tie as tie
 

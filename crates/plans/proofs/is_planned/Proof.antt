@@ -1,4 +1,4 @@
--- `paths::is_planned` halves the labels that may be the place's. The invariant: as many as are below it lie between low and high; the measure: how many are
+-- `plans::is_planned` halves the labels that may be the place's. The invariant: as many as are below it lie between low and high; the measure: how many are
 -- left.
 use Prim.Native.Nat.{ℕ, _+_, _-_, _/_, _≤_}
 use native.Mathlib.Omega.{arith}
@@ -9,9 +9,9 @@ use denote.Ref.{now}
 use lib.ListN.{length}
 use Rattle.model.specs.Fill.{inPlan}
 use Rattle.model.proofs.Pointer.{passedBy, isNext, passed-after, passed-before, passed-at-most}
-use Rattle.paths.proofs.Places.{place-label, next-planned}
-use Rattle.paths.proofs.is_planned.Statement.{statement}
-use Rattle.paths.proofs.is_planned.Tie as tie
+use Rattle.plans.proofs.Places.{place-label, next-planned}
+use Rattle.plans.proofs.is_planned.Statement.{statement}
+use Rattle.plans.proofs.is_planned.Tie as tie
 
 abbrev Inv-loop : tie.InvT-loop
 Inv-loop n plan i j k low₀ high₀ low high = (low ≤ passedBy plan (k - 1)) × (passedBy plan (k - 1) ≤ high) × (high ≤ length plan)

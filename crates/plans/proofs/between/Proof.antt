@@ -1,4 +1,4 @@
--- `paths::between` tries one h after the other, from where both lines can first be held. The invariant: h is at most the smallest that serves; the measure:
+-- `plans::between` tries one h after the other, from where both lines can first be held. The invariant: h is at most the smallest that serves; the measure:
 -- how many are left.
 use Prim.Native.Nat.{_-_, _≤_, _<_}
 use native.Mathlib.Omega.{arith}
@@ -8,21 +8,24 @@ use borrow.Author.Tests.{not-true, not-false}
 use denote.Ref.{now}
 use lib.ListN.{length}
 use Rattle.model.specs.Label.{label}
+use Rattle.model.specs.Fill.{Plan}
 use Rattle.model.specs.Route.{middle}
-use Rattle.paths.proofs.Places.{place-label}
-use Rattle.paths.proofs.Middle.{Seeking, pair-inside, start, indices, found, larger, onward}
-use Rattle.paths.proofs.between.Statement.{statement}
-use Rattle.paths.proofs.between.Tie as tie
+use Rattle.plans.specs.Stands.{Stands, Filled}
+use Rattle.plans.proofs.Places.{place-label}
+use Rattle.plans.proofs.Middle.{Seeking, pair-inside, start, indices, found, larger, onward}
+use Rattle.plans.proofs.between.Statement.{statement}
+use Rattle.plans.proofs.between.Tie as tie
 
 abbrev Inv-loop : tie.InvT-loop
-Inv-loop n plan work rows columns i j h₀ low₀ high₀ h low high = Seeking n plan i j h low high
+Inv-loop n work rows columns i j h₀ low₀ high₀ h low high =
+    (L : Plan) → Stands n L work rows columns → Filled n L i j → Seeking n L i j h low high
 
 abbrev μ-loop : tie.MeasureT-loop
-μ-loop n plan work rows columns i j h₀ low₀ high₀ h low high = middle n plan i j - h
+μ-loop n work rows columns i j h₀ low₀ high₀ h low high = n - h
 
 -- Places of the code: where the search starts, with the entry before it; the loop's head; and a turn.
 abbrev entry : tie.After-larger2 Inv-loop μ-loop → tie.Start Inv-loop μ-loop
-entry c = c .before .before .before .before .before .before .before .before .before .before
+entry c = c .before .before .before .before .before .before .before .before .before
 
 abbrev from : tie.At-loop Inv-loop μ-loop → tie.After-larger2 Inv-loop μ-loop
 from c = c .before .before .before .before .before
@@ -30,31 +33,41 @@ from c = c .before .before .before .before .before
 abbrev head : tie.After-wide5 Inv-loop μ-loop → tie.At-loop Inv-loop μ-loop
 head c = c .before .before .before
 
-begun : (c : tie.After-larger2 Inv-loop μ-loop) → let a = entry c .args in
-    (1 ≤ c .larger2 .result) × (c .larger2 .result ≤ middle (a .n) (now (a .plan)) (a .i) (a .j))
-begun c =
-    let p = entry c .pre in
+-- what is known of a plan, from the entry on
+abbrev Here : Plan → tie.Start Inv-loop μ-loop → Type 0
+Here L c = let a = c .args in Stands (a .n) L (now (a .work)) (now (a .rows)) (now (a .columns)) × Filled (a .n) L (a .i) (a .j)
+
+begun : {L : Plan} (c : tie.After-larger2 Inv-loop μ-loop) → Here L (entry c) → let a = entry c .args in
+    (1 ≤ c .larger2 .result) × (c .larger2 .result ≤ middle (a .n) L (a .i) (a .j))
+begun c p =
     let l = c .before in
     start (p .0) (p .1) (l .before .before .before .before .wide .ensures) (l .before .before .wide2 .ensures) (l .larger .ensures) (c .larger2 .ensures)
 
-first : (c : tie.After-label Inv-loop μ-loop) → let a = entry (c .before) .args in
+first : {L : Plan} (c : tie.After-label Inv-loop μ-loop) → Here L (entry (c .before)) → let a = entry (c .before) .args in
     (c .label .result ≡ label (a .n) (a .i) (c .before .larger2 .result)) × (1 ≤ c .label .result)
-first c =
-    let p = entry (c .before) .pre in
-    let b = begun (c .before) in
+first c p =
+    let b = begun (c .before) p in
     place-label _ _ _ (c .label .ensures) (p .0 .high) (pair-inside (p .0) (p .1) _ (b .0) (b .1) .0)
 
-second : (c : tie.After-label2 Inv-loop μ-loop) → let f = c .before .before .before in let a = entry f .args in
+second : {L : Plan} (c : tie.After-label2 Inv-loop μ-loop) → let f = c .before .before .before in Here L (entry f) → let a = entry f .args in
     (c .label2 .result ≡ label (a .n) (f .larger2 .result) (a .j)) × (1 ≤ c .label2 .result)
-second c =
-    let f = c .before .before .before in
-    let p = entry f .pre in
-    let b = begun f in
+second c p =
+    let b = begun (c .before .before .before) p in
     place-label _ _ _ (c .label2 .ensures) (p .0 .high) (pair-inside (p .0) (p .1) _ (b .0) (b .1) .1)
+
+-- none at h
+further : {L : Plan} (c : tie.After-wide5 Inv-loop μ-loop) → let e = entry (from (head c)) in Here L e → head c .loop .h < middle (e .args .n) L (e .args .i) (e .args .j)
+further {L} c p =
+    let h = head c in
+    larger (p .0) (p .1) (h .loop .inv L (p .0) (p .1)) (c .before .before .both-used .ensures) (not-true _ (c .before .if1 .taken))
+
+-- the plan that is there
+some : (c : tie.Start Inv-loop μ-loop) → Here (c .pre .plan) c
+some c = (c .pre .stands, c .pre .filled)
 
 bounds : (c : tie.At-loop Inv-loop μ-loop) → let l = c .loop in let a = entry (from c) .args in
     (l .low < length (now (a .work))) × (l .high < length (now (a .work))) × (l .low < 360000) × (l .high < 360000) × (l .h < a .n) × (a .n ≤ 600)
-bounds c = let p = entry (from c) .pre in indices (p .0) (p .1) (c .loop .inv)
+bounds c = let p = some (entry (from c)) in indices (p .0) (p .1) (c .loop .inv _ (p .0) (p .1))
 
 wide-requires : tie.Need-wide-requires Inv-loop μ-loop
 wide-requires c κs = search needs
@@ -84,7 +97,7 @@ label-requires : tie.Need-label-requires Inv-loop μ-loop
 label-requires c κs = search needs
 
 sub-wide : tie.Need-sub-wide Inv-loop μ-loop
-sub-wide c = first c .1
+sub-wide c = first c (some (entry (c .before))) .1
 
 wide-requires-3 : tie.Need-wide-requires-3 Inv-loop μ-loop
 wide-requires-3 c κs = search needs
@@ -93,17 +106,17 @@ label-requires-2 : tie.Need-label-requires-2 Inv-loop μ-loop
 label-requires-2 c κs = search needs
 
 sub-wide-2 : tie.Need-sub-wide-2 Inv-loop μ-loop
-sub-wide-2 c = second c .1
+sub-wide-2 c = second c (some (entry (c .before .before .before))) .1
 
 wide-requires-4 : tie.Need-wide-requires-4 Inv-loop μ-loop
 wide-requires-4 c κs = search needs
 
 loop-holds : tie.Need-loop-holds Inv-loop μ-loop
-loop-holds c =
+loop-holds c = λ L stands filled.
     let l = c .before in
     let k = l .before .before in
-    let b = begun (k .before) in
-    record { from = b .0; up-to = b .1; low-at = omega (arith, first k); high-at = omega (arith, second l) }
+    let b = begun (k .before) (stands, filled) in
+    record { from = b .0; up-to = b .1; low-at = omega (arith, first k (stands, filled)); high-at = omega (arith, second l (stands, filled)) }
 
 both-used-requires : tie.Need-both-used-requires Inv-loop μ-loop
 both-used-requires c κs = let b = bounds c in (b .0, b .1)
@@ -132,24 +145,14 @@ add-high-2 c = omega (arith, bounds (head c))
 add-h : tie.Need-add-h Inv-loop μ-loop
 add-h c = omega (arith, bounds (head c))
 
--- none at h
-further : (c : tie.After-wide5 Inv-loop μ-loop) → let a = entry (from (head c)) .args in head c .loop .h < middle (a .n) (now (a .plan)) (a .i) (a .j)
-further c =
-    let h = head c in
-    let p = entry (from h) .pre in
-    larger (p .0) (p .1) (h .loop .inv) (c .before .before .both-used .ensures) (not-true _ (c .before .if1 .taken))
-
 loop-less : tie.Need-loop-less Inv-loop μ-loop
-loop-less c = omega (arith, further c)
+loop-less c = omega (arith, bounds (head c))
 
 loop-again : tie.Need-loop-again Inv-loop μ-loop
-loop-again c = let p = entry (from (head c)) .pre in onward (p .0) (p .1) (head c .loop .inv) _ (c .wide5 .ensures) (further c)
+loop-again c = λ L stands filled. onward stands filled (head c .loop .inv L stands filled) _ (c .wide5 .ensures) (further c (stands, filled))
 
 returns : tie.Need-returns Inv-loop μ-loop
-returns c =
-    let h = c .before .before in
-    let p = entry (from h) .pre in
-    found (p .0) (p .1) (h .loop .inv) (c .before .both-used .ensures) (not-false _ (c .if1 .left))
+returns c = λ L stands filled. found stands filled (c .before .before .loop .inv L stands filled) (c .before .both-used .ensures) (not-false _ (c .if1 .left))
 
 pub between-spec : {M : Type 1} → statement M
 between-spec =

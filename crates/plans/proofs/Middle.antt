@@ -14,7 +14,7 @@ use Rattle.model.proofs.Labels.{Inside, label-range}
 use Rattle.model.proofs.Lines.{label-lower-step, label-upper-step}
 use Rattle.model.specs.Route.{middle}
 use Rattle.model.proofs.Route.{Between, between}
-use Rattle.paths.specs.Trail.{Slotted, Filled}
+use Rattle.plans.specs.Stands.{Stands, Filled}
 
 -- h is tried next, at the indices low and high
 pub record Seeking (N : ℕ) (L : Plan) (i j h low high : ℕ) : Type 0 where
@@ -23,7 +23,7 @@ pub record Seeking (N : ℕ) (L : Plan) (i j h low high : ℕ) : Type 0 where
   pub low-at : suc low ≡ label N i h
   pub high-at : suc high ≡ label N h j
 
-module _ {N : ℕ} {L : Plan} {work inRows inColumns : List ℕ} (s : Slotted N L work inRows inColumns) {i j : ℕ} (f : Filled N L i j) where
+module _ {N : ℕ} {L : Plan} {work inRows inColumns : List ℕ} (s : Stands N L work inRows inColumns) {i j : ℕ} (f : Filled N L i j) where
   sought : Between N L i j (middle N L i j)
   sought = between N L i j (f .leads .inside) (f .free) (f .leads .holds)
 

@@ -1,0 +1,2 @@
+-- What the contracts of `exchange` cite.
+pub mod Stood
