@@ -90,7 +90,7 @@ impl<'a> Standing<'a> {
             self.work[label(self.n, i, j) as usize - 1..].iter().map(|&slot| slot != 0)
         };
         let mut counts = [0; 2];
-        for (k, (first, held)) in (t + 2..=self.n).zip(line(t).zip(line(t + 1))) {
+        for (k, (first, held)) in (t + 2..self.n + 1).zip(line(t).zip(line(t + 1))) {
             let (i, j) = place(t + 1, k);
             let second = held && (!(first && linked) || self.is_older(t, i, j));
             counts[0] += usize::from(first) + usize::from(second || first && linked);

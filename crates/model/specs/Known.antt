@@ -1,5 +1,5 @@
--- Document 01's "Known plans and values" and its listing, and values for document 02's A.1, A.2, A.5, A.6, A.7, A.9, A.10, A.11, A.13 and A.14, as one theorem
--- about the definitions.
+-- Document 01's "Known plans and values" and its listing, and values for document 02's A.1, A.2, A.5, A.6, A.7 and A.9 to A.14, as one theorem about the
+-- definitions.
 use Prim.Native.Nat.{ℕ, suc, _*_}
 use mathlib.Core.Bool.{true, false}
 use mathlib.Core.Path.{_≡_, refl}
