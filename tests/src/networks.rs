@@ -101,6 +101,19 @@ pub fn any(n: u32, random: &mut Random) -> Vec<u32> {
     scattered(n, diagonal, elsewhere, random)
 }
 
+/// An order, at times one that 1 refuses, then a small one, the same if 1 lets it through, and a plan of the small one, which 3 or 4 may
+/// refuse.
+pub fn perhaps_damaged(random: &mut Random) -> (u32, u32, Vec<u32>) {
+    let n = if random.chance(0.1) { [0, 601, 65536, u32::MAX][random.below(4)] } else { 1 + random.below(6) as u32 };
+    let small = n.clamp(1, 6);
+    let mut plan = any(small, random);
+    if random.chance(0.3) && !plan.is_empty() {
+        let at = random.below(plan.len());
+        plan[at] = [0, small * small + 1, u32::MAX, plan[0]][random.below(4)];
+    }
+    (n, small, plan)
+}
+
 /// Random plans of the orders up to 40, the same for the same seed.
 pub fn plans(seed: u64, count: usize) -> impl Iterator<Item = (u32, Vec<u32>)> {
     let mut random = Random(seed);

@@ -281,13 +281,7 @@ fn the_checks_come_in_order() {
     let mut random = Random(58);
     let mut met = [0; 30];
     for _ in 0..20_000 {
-        let n = if random.chance(0.1) { [0, 601, 65536, u32::MAX][random.below(4)] } else { 1 + random.below(6) as u32 };
-        let small = n.clamp(1, 6);
-        let mut plan = networks::any(small, &mut random);
-        if random.chance(0.3) && !plan.is_empty() {
-            let at = random.below(plan.len());
-            plan[at] = [0, small * small + 1, u32::MAX, plan[0]][random.below(4)];
-        }
+        let (n, small, plan) = networks::perhaps_damaged(&mut random);
         let work_len = (small * small) as usize + random.below(5) - usize::from(random.chance(0.2));
         let numbering_len = if random.chance(0.3) { random.below(9) } else { small as usize };
         let given = ordered_with(work_len, numbering_len, n, &plan, random.below(12) as u32, &mut random);

@@ -138,13 +138,7 @@ fn the_checks_come_in_order() {
     let mut random = Random(36);
     let mut met = [0; 24];
     for _ in 0..20_000 {
-        let n = if random.chance(0.1) { [0, 601, 65536, u32::MAX][random.below(4)] } else { 1 + random.below(6) as u32 };
-        let small = n.clamp(1, 6);
-        let mut plan = networks::any(small, &mut random);
-        if random.chance(0.3) && !plan.is_empty() {
-            let at = random.below(plan.len());
-            plan[at] = [0, small * small + 1, u32::MAX, plan[0]][random.below(4)];
-        }
+        let (n, small, plan) = networks::perhaps_damaged(&mut random);
         let any_room = |random: &mut Random| match random.below(12) {
             0 => 0,
             1 => small + 1,
