@@ -2,22 +2,22 @@
 use Prim.Native.Nat.{ℕ, suc, _+_, _-_, _*_, _≤_, _<_}
 use native.Mathlib.Nat.{mul-le-mul}
 use native.Mathlib.Omega.{arith}
-use mathlib.Core.Path.{_≡_, refl, sym, ap, ap₂, _∙_}
-use mathlib.Core.Bool.{Bool, true, false, cond, not}
+use mathlib.Core.Path.{_≡_, sym, ap, _∙_}
+use mathlib.Core.Bool.{Bool, true, false, cond, not, _&&_, and-eq-true-iff}
 use mathlib.Core.List.{List}
 use lib.Dec.{ltb}
 use lib.ListN.{length, getD}
 use Rattle.model.specs.Lists.{rising, total}
 use Rattle.model.specs.Label.{label}
-use Rattle.model.specs.Fill.{Plan}
+use Rattle.model.specs.Fill.{Plan, held}
 use Rattle.model.specs.Numbering.{Numbering, renumbered}
 use Rattle.model.proofs.Labels.{Inside, label-range}
 use Rattle.model.proofs.Sums.{rising-last, rising-at-most, at-most-one}
-use Rattle.model.proofs.Exchanged.{bit, pair, pairs}
+use Rattle.model.proofs.Exchanged.{pair, pairs}
 use Rattle.slots.specs.Batch.{rowOf, columnOf}
-use Rattle.exchange.specs.Stood.{Stood, Neighbours, Along, Counts, firstLine, secondLine, linked}
+use Rattle.exchange.specs.Stood.{Stood, Neighbours, Beyond, Counts, firstLine, secondLine, linked}
 use Rattle.exchange.specs.declared.Past.{Past}
-use Rattle.exchange.proofs.Lines.{line-label, line-inside}
+use Rattle.exchange.proofs.Lines.{line-label, line-inside, line-held, second-inside, second-beyond}
 
 -- the sum over the lines past t + 1 up to k
 abbrev pub upTo : (ℕ → Bool) → (ℕ → Bool) → Bool → ℕ → ℕ → ℕ
@@ -107,30 +107,36 @@ module _ {N : ℕ} {L : Plan} {p : Numbering} {work inRows inColumns : List ℕ}
       first-label : suc (suc first) ≡ label N (rowOf across t (suc k)) (columnOf across t (suc k))
       first-label = omega (arith, c .first-at, c .low, line-label N across t (suc k) (near .0) (omega (arith, near .1)) (omega (arith, c .low)))
 
+      second-label : suc (suc second) ≡ label N (rowOf across (suc t) (suc k)) (columnOf across (suc t) (suc k))
+      second-label = omega (arith, c .second-at, c .low, line-label N across (suc t) (suc k) (omega arith) (near .1) (omega (arith, c .low)))
+
+      pub past : suc t < suc k
+      past = omega (arith, c .low)
+
       pub first-index : suc first < length work
       first-index = omega (arith, first-label, label-range N _ _ first-inside, s .stands .room)
 
-      pub first-held : {a : Bool} {index : ℕ} → index ≡ suc first → a ≡ ltb 0 (getD work index 0) → a ≡ firstLine N P t across (suc k)
-      first-held e f =
-          let at : label N (rowOf across t (suc k)) (columnOf across t (suc k)) - 1 ≡ suc first = omega (arith, first-label) in
-          f ∙ ap (λ n. ltb 0 (getD work n 0)) (e ∙ sym at) ∙ s .stands .stands _ _ first-inside
+      pub second-index : suc second < length work
+      second-index = omega (arith, second-label, label-range N _ _ (second-inside s near across (suc k) past more), s .stands .room)
 
-      pub second-along : {a link : Bool} {index n : ℕ} → n ≡ suc k → index ≡ suc second → a ≡ firstLine N P t across (suc k) → link ≡ linked N P t across
-          → Along N P t across n index a link
-      second-along d e f g = rw (d, e) (record {
-        low = omega (arith, c .low);
-        high = more;
-        index-is = omega (arith, c .second-at, c .low, line-label N across (suc t) (suc k) (omega arith) (near .1) (omega (arith, c .low)));
-        first-is = f;
-        link-is = g;
-      })
+      pub first-held : {a : Bool} {index : ℕ} → index ≡ suc first → a ≡ ltb 0 (getD work index 0) → a ≡ firstLine N P t across (suc k)
+      first-held e f = f ∙ ap (λ n. ltb 0 (getD work n 0)) e ∙ line-held s across t (suc k) first-inside first-label
+
+      pub second-held : {b : Bool} {index : ℕ} → index ≡ suc second → b ≡ ltb 0 (getD work index 0)
+          → b ≡ held N P (rowOf across (suc t) (suc k)) (columnOf across (suc t) (suc k))
+      second-held e f = f ∙ ap (λ n. ltb 0 (getD work n 0)) e ∙ line-held s across (suc t) (suc k) (second-inside s near across (suc k) past more) second-label
+
+      -- where a way leads to it through the first line
+      pub second-past : {a b link : Bool} {n : ℕ} → n ≡ suc k → a ≡ firstLine N P t across (suc k)
+          → b ≡ held N P (rowOf across (suc t) (suc k)) (columnOf across (suc t) (suc k)) → link ≡ linked N P t across → ((link && a) && b) ≡ true
+          → Beyond N P t (rowOf across (suc t) n) (columnOf across (suc t) n)
+      second-past {a} {b} {link} e x y z all = rw e (second-beyond s near across (suc k) past more (sym y ∙ and-eq-true-iff (link && a) b .0 all .1))
 
       pub count-more : {a b link back : Bool} {first′ second′ before′ after′ n : ℕ} → n ≡ suc k → first′ ≡ suc first → second′ ≡ suc second
-          → a ≡ firstLine N P t across (suc k) → b ≡ secondLine N P t across n
+          → a ≡ firstLine N P t across (suc k) → b ≡ secondLine N P t across (suc k)
           → link ≡ linked N P t across → back ≡ linked N P t (not across) → before′ ≡ before + pair a b link → after′ ≡ after + pair b a back
           → Counting N P t across first′ second′ before′ after′ n
-      count-more d e f a b′ x y g h =
-          let b = b′ ∙ ap (secondLine N P t across) d in
+      count-more d e f a b x y g h =
           rw (d, e, f)
           (record {
             low = omega (arith, c .low);

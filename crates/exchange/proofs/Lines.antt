@@ -1,24 +1,23 @@
 -- The lines of two neighbours past both: where they stand in the work numbers, and what is held in them.
-use Prim.Native.Nat.{ℕ, suc, _+_, _-_, _*_, _≤_, _<_}
-use native.Mathlib.Nat.{mul-le-mul}
+use Prim.Native.Nat.{ℕ, suc, _+_, _-_, _≤_, _<_}
 use native.Mathlib.Omega.{arith}
 use mathlib.Core.Path.{_≡_, refl, sym, ap, ap₂, _∙_}
-use mathlib.Core.Bool.{Bool, true, false, cond, not, _&&_, _||_, true≢false}
+use mathlib.Core.Bool.{Bool, true, false, cond, _&&_, _||_, true≢false}
 use mathlib.Core.List.{List}
 use lib.Dec.{ltb}
-use lib.ListN.{length, getD}
+use lib.ListN.{getD}
 use Rattle.model.specs.Label.{label}
 use Rattle.model.specs.Fill.{Plan, inPlan, held}
 use Rattle.model.specs.Numbering.{Numbering, givenAt, renumbered}
 use Rattle.model.specs.Route.{middle}
-use Rattle.model.proofs.Labels.{Inside, label-range, label-in-column, label-in-row}
+use Rattle.model.proofs.Labels.{Inside, label-in-column, label-in-row}
 use Rattle.model.proofs.Plans.{pivot-held}
 use Rattle.model.proofs.Reach.{reach, reach-planned, reach-between}
 use Rattle.model.proofs.Exchange.{down-after, right-after}
-use Rattle.model.proofs.Renumbered.{planned-named, given-inside, renumbered-named, exchanged-planned}
+use Rattle.model.proofs.Renumbered.{planned-named, given-inside, renumbered-named}
 use Rattle.slots.specs.Batch.{rowOf, columnOf}
 use Rattle.plans.specs.Stands.{Filled}
-use Rattle.exchange.specs.Stood.{Stood, Neighbours, Beyond, Along, firstLine, secondLine, linked}
+use Rattle.exchange.specs.Stood.{Stood, Neighbours, Beyond, firstLine, secondLine, linked}
 
 or-left : (b c : Bool) → c ≡ false → (b || c) ≡ true → true ≡ b
 or-left true c f g = refl
@@ -44,6 +43,13 @@ module _ {N : ℕ} {L : Plan} {p : Numbering} {work inRows inColumns : List ℕ}
       planned-named N P i j inside
       ∙ renumbered-named N L p (s .kept .numbers) i j inside
       ∙ sym (planned-named N L (givenAt p i) (givenAt p j) (given-inside N p (s .kept .numbers) i j inside))
+
+  -- a place of a line stands in the work numbers
+  pub line-held : (across : Bool) (m k : ℕ) {index : ℕ} → Inside N (rowOf across m k) (columnOf across m k) → suc index ≡ label N (rowOf across m k) (columnOf across m k)
+      → ltb 0 (getD work index 0) ≡ held N P (rowOf across m k) (columnOf across m k)
+  line-held across m k {index} inside e =
+      let at : label N (rowOf across m k) (columnOf across m k) - 1 ≡ index = omega (arith, e) in
+      rw at at (s .stands .stands _ _ inside)
 
   module _ {t : ℕ} (near : Neighbours N t) where
     -- ---- a place that is held past t
@@ -99,37 +105,26 @@ module _ {N : ℕ} {L : Plan} {p : Numbering} {work inRows inColumns : List ℕ}
         step t d e l true = rw e (right-after N d P k (omega arith))
         step t d e l false = rw e (down-after N d P k (omega arith))
 
-    module _ {across : Bool} {k index : ℕ} {first link : Bool} (a : Along N P t across k index first link) where
-      along-inside : Inside N (rowOf across (suc t) k) (columnOf across (suc t) k)
-      along-inside = line-inside N across (suc t) k (omega arith) (near .1) (omega (arith, a .low)) (a .high)
+    module _ (across : Bool) (k : ℕ) (low : suc t < k) (high : k ≤ N) where
+      pub second-inside : Inside N (rowOf across (suc t) k) (columnOf across (suc t) k)
+      second-inside = line-inside N across (suc t) k (omega arith) (near .1) (omega arith) high
 
-      pub along-index : (index < length work) × (index < 360000)
-      along-index =
-          let range = label-range N _ _ along-inside in
-          let square = mul-le-mul {n₂ = 600} {m₂ = 600} (s .stands .high) (s .stands .high) in
-          (omega (arith, a .index-is, range, s .stands .room), omega (arith, a .index-is, range, square))
-
-      along-held : ltb 0 (getD work index 0) ≡ held N P (rowOf across (suc t) k) (columnOf across (suc t) k)
-      along-held =
-          let at : label N (rowOf across (suc t) k) (columnOf across (suc t) k) - 1 ≡ index = omega (arith, a .index-is) in
-          rw at at (s .stands .stands _ _ along-inside)
-
-      -- not held; held, and no way through the first line; held
-      pub along-none : ltb 0 (getD work index 0) ≡ false → false ≡ secondLine N P t across k
-      along-none e = step (secondLine N P t across k) _ (sym (second-after across k (a .low)) ∙ sym along-held ∙ e)
-        where
-          step : (b c : Bool) → (b || c) ≡ false → false ≡ b
-          step true c f = absurd (true≢false f)
-          step false c f = refl
-
-      pub along-alone : ltb 0 (getD work index 0) ≡ true → (first && link) ≡ false → true ≡ secondLine N P t across k
-      along-alone e f = or-left _ _ (sym (ap₂ _&&_ (a .first-is) (a .link-is)) ∙ f) (sym (second-after across k (a .low)) ∙ sym along-held ∙ e)
-
-      pub along-beyond : {i j : ℕ} → i ≡ rowOf across (suc t) k → j ≡ columnOf across (suc t) k → ltb 0 (getD work index 0) ≡ true → Beyond N P t i j
-      along-beyond row column e =
-          rw (row, column)
-          (record { inside = along-inside; row-past = past across .0; column-past = past across .1; holds = sym along-held ∙ e })
+      pub second-beyond : held N P (rowOf across (suc t) k) (columnOf across (suc t) k) ≡ true → Beyond N P t (rowOf across (suc t) k) (columnOf across (suc t) k)
+      second-beyond e = record { inside = second-inside; row-past = past across .0; column-past = past across .1; holds = e }
         where
           past : (across : Bool) → (t < rowOf across (suc t) k) × (t < columnOf across (suc t) k)
-          past true = (omega arith, omega (arith, a .low))
-          past false = (omega (arith, a .low), omega arith)
+          past true = (omega arith, omega arith)
+          past false = (omega arith, omega arith)
+
+      -- where there is no way to it through the first line, it is held without room t or not at all
+      pub second-alone : {a b link : Bool} → a ≡ firstLine N P t across k → b ≡ held N P (rowOf across (suc t) k) (columnOf across (suc t) k) → link ≡ linked N P t across
+          → ((link && a) && b) ≡ false → b ≡ secondLine N P t across k
+      second-alone {a} {b} {link} x y z none =
+          step a b link (secondLine N P t across k) none (y ∙ second-after across k low ∙ ap₂ (λ a link. secondLine N P t across k || (a && link)) (sym x) (sym z))
+        where
+          step : (a b link r : Bool) → ((link && a) && b) ≡ false → b ≡ (r || (a && link)) → b ≡ r
+          step a b link true n e = e
+          step a false link false n e = refl
+          step true true true false n e = absurd (true≢false n)
+          step true true false false n e = absurd (true≢false e)
+          step false true link false n e = absurd (true≢false e)

@@ -3,7 +3,7 @@ use Prim.Native.Nat.{ℕ, suc, _-_, _≤_, _<_}
 use mathlib.Core.Path.{_≡_}
 use mathlib.Core.Bool.{Bool, true, not}
 use mathlib.Core.List.{List}
-use Rattle.model.specs.Label.{isOrder, label}
+use Rattle.model.specs.Label.{isOrder}
 use Rattle.model.specs.Fill.{Plan, held}
 use Rattle.model.specs.Compile.{judged, good}
 use Rattle.model.specs.Numbering.{Numbering, renumbered}
@@ -42,14 +42,6 @@ secondLine N P t across k = reach N P (t - 1) (rowOf across (suc t) k) (columnOf
 -- whether the second goes on through the first
 abbrev pub linked : ℕ → Plan → ℕ → Bool → Bool
 linked N P t across = held N P (rowOf across (suc t) t) (columnOf across (suc t) t)
-
--- the k-th place of the second line has this index, and there is a way to it through the first line's if that is held and the rooms are linked
-pub record Along (N : ℕ) (P : Plan) (t : ℕ) (across : Bool) (k index : ℕ) (first link : Bool) : Type 0 where
-  pub low : suc t < k
-  pub high : k ≤ N
-  pub index-is : suc index ≡ label N (rowOf across (suc t) k) (columnOf across (suc t) k)
-  pub first-is : first ≡ firstLine N P t across k
-  pub link-is : link ≡ linked N P t across
 
 -- the slots of both lines, and what they would be
 pub record Counts (N : ℕ) (P : Plan) (t : ℕ) (across : Bool) (r : Past) : Type 0 where

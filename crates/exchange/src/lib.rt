@@ -13,7 +13,8 @@ ghost use Rattle.model.proofs.Labels.{Inside};
 ghost use Rattle.model.proofs.Reach.{reach};
 ghost use Rattle.model.proofs.Exchanged.{bit as Exchanged·bit};
 ghost use Rattle.model.proofs.Exchanged.{pair as Exchanged·pair};
-ghost use Rattle.exchange.specs.Stood.{Stood, Neighbours, Beyond, Along, Counts, secondLine, linked as Stood·linked};
+ghost use Rattle.exchange.specs.Stood.{Stood, Neighbours, Beyond, Counts, secondLine, linked as Stood·linked};
+ghost use Rattle.slots.specs.Batch.{rowOf, columnOf};
 
 // Slots of two lines in the places past t + 1: what they are, and what they would be after the exchange.
 pub struct Past {
@@ -156,28 +157,18 @@ fn count_past(
         first += 1;
         second += 1;
         let a = 0 < work[first];
-        let b = stays(
-            n,
-            plan,
-            numbering,
-            work,
-            rows,
-            columns,
-            t,
-            across,
-            k,
-            second,
-            a,
-            linked,
-        );
+        let mut b = 0 < work[second];
+        // room t alone can hold it only where t's line has a place there too and the rooms are linked
+        if linked & a & b {
+            b = stays(n, plan, numbering, work, rows, columns, t, across, k);
+        }
         before += pair(a, b, linked);
         after += pair(b, a, back);
     }
     Past { before, after }
 }
 
-// Whether the k-th place of t + 1's line, at this index, would be held without room t. Through it there is a way if t's line has such a place too and the
-// rooms are linked.
+// Whether the k-th place of t + 1's line, which is held, would be without room t.
 fn stays(
     n: u32,
     plan: &[u32],
@@ -188,23 +179,11 @@ fn stays(
     t: u32,
     across: bool,
     k: u32,
-    index: usize,
-    first: bool,
-    linked: bool,
 ) -> bool
     requires { ⌜ Stood n (now plan) (now numbering) (now work) (now rows) (now columns) ⌝ }
-    requires { ⌜ Neighbours n t × Along n (renumbered n (now plan) (now numbering)) t across k index first linked ⌝ }
+    requires { ⌜ Neighbours n t × Beyond n (renumbered n (now plan) (now numbering)) t (rowOf across (suc t) k) (columnOf across (suc t) k) ⌝ }
     ensures { λ r. ⌜ r ≡ secondLine n (renumbered n (now (plan .entry)) (now (numbering .entry))) t across k ⌝ }
 {
-    if !(0 < work[index]) {
-        return false;
-    }
-    if !first {
-        return true;
-    }
-    if !linked {
-        return true;
-    }
     let i = row_of(across, t + 1, k);
     let j = column_of(across, t + 1, k);
     is_older(n, plan, numbering, work, rows, columns, t, i, j)

@@ -1,20 +1,23 @@
 -- `exchange::count_past` goes along both lines. The invariant: the places up to k are counted. The measure is the places left.
-use Prim.Native.Nat.{ℕ, suc, _+_, _-_, _≤_, _<_}
+use Prim.Native.Nat.{ℕ, suc, _+_, _-_, _≤_}
 use native.Mathlib.Numerals.{add-one}
 use native.Mathlib.Omega.{arith}
-use mathlib.Core.Path.{_≡_, refl, sym, ap, ap₂, _∙_}
+use mathlib.Core.Path.{_≡_, refl, ap, _∙_}
 use mathlib.Core.Bool.{Bool, true, false, cond}
+use mathlib.Core.Logic.{⊎-elim}
 use borrow.Author.Needs.{needs}
 use denote.Ref.{now}
 use lib.Dec.{ltb}
 use lib.ListN.{getD}
 use Rattle.model.specs.Label.{label}
+use Rattle.model.specs.Fill.{held}
 use Rattle.model.specs.Numbering.{renumbered}
-use Rattle.model.proofs.Labels.{Inside}
 use Rattle.model.proofs.Exchanged.{pair}
 use Rattle.plans.proofs.Places.{place-label}
-use Rattle.exchange.specs.Stood.{Stood, Neighbours, firstLine}
-use Rattle.exchange.proofs.Counting.{Counting, pivots-small, count-start, count-small, first-index, first-held, second-along, count-more, count-end}
+use Rattle.slots.specs.Batch.{rowOf, columnOf}
+use Rattle.exchange.specs.Stood.{firstLine, secondLine}
+use Rattle.exchange.proofs.Counting.{Counting, pivots-small, count-start, count-small, past, first-index, second-index, first-held, second-held, second-past, count-more, count-end}
+use Rattle.exchange.proofs.Lines.{second-alone}
 use Rattle.exchange.proofs.count_past.Statement.{statement}
 use Rattle.exchange.proofs.count_past.Tie as tie
 
@@ -32,8 +35,8 @@ entry c = c .before .before .before .before .before
 abbrev begun : tie.At-loop Inv-loop μ-loop → tie.Start Inv-loop μ-loop
 begun c = entry (c .before .before .before .before .before .before .before)
 
-abbrev turn : tie.After-shared-slice-known6 Inv-loop μ-loop → tie.At-loop Inv-loop μ-loop
-turn c = c .before .before
+abbrev turn : tie.After-shared-slice-known7 Inv-loop μ-loop → tie.At-loop Inv-loop μ-loop
+turn c = c .before .before .before
 
 skip-at-most : (across : Bool) (n m : ℕ) → cond across (n - m) 0 ≤ n
 skip-at-most true n m = omega arith
@@ -76,13 +79,35 @@ small c =
     let q = pivots-small (c .pre .0) (c .pre .1 .0) in
     (omega (arith, q, skip-at-most (c .args .across) (c .args .n) (c .args .t)), omega (arith, q, skip-at-most (c .args .across) (c .args .n) (suc (c .args .t))))
 
--- in a turn: the place of the first line
-held-here : (c : tie.After-shared-slice-known6 Inv-loop μ-loop) → let a = begun (turn c) .args in let l = turn c .loop in
+-- in a turn: the places of both lines, as they are held
+first-here : (c : tie.After-shared-slice-known7 Inv-loop μ-loop) → let a = begun (turn c) .args in let l = turn c .loop in
     ltb 0 (getD (now (a .work)) (l .first + 1) 0) ≡ firstLine (a .n) (renumbered (a .n) (now (a .plan)) (now (a .numbering))) (a .t) (a .across) (suc (l .k))
-held-here c =
+first-here c =
     let t = turn c in
     let p = begun t .pre in
-    first-held (p .0) (p .1 .0) (t .loop .inv) (c .before .loop-test .taken) (add-one _) refl
+    first-held (p .0) (p .1 .0) (t .loop .inv) (c .before .before .loop-test .taken) (add-one _) refl
+
+second-here : (c : tie.After-shared-slice-known7 Inv-loop μ-loop) → let a = begun (turn c) .args in let l = turn c .loop in
+    ltb 0 (getD (now (a .work)) (l .second + 1) 0)
+    ≡ held (a .n) (renumbered (a .n) (now (a .plan)) (now (a .numbering))) (rowOf (a .across) (suc (a .t)) (suc (l .k))) (columnOf (a .across) (suc (a .t)) (suc (l .k)))
+second-here c =
+    let t = turn c in
+    let p = begun t .pre in
+    second-held (p .0) (p .1 .0) (t .loop .inv) (c .before .before .loop-test .taken) (add-one _) refl
+
+-- and the second's as it would be
+second-stays : (c : tie.Joined1 Inv-loop μ-loop) → let a = begun (turn (c .before)) .args in
+    c .if1 .b ≡ secondLine (a .n) (renumbered (a .n) (now (a .plan)) (now (a .numbering))) (a .t) (a .across) (suc (turn (c .before) .loop .k))
+second-stays c =
+    let t = turn (c .before) in
+    let a = begun t .args in
+    let p = begun t .pre in
+    let more = c .before .before .before .loop-test .taken in
+    ⊎-elim
+    (λ w. w .2 ∙ w .1 .ensures ∙ ap (secondLine (a .n) (renumbered (a .n) (now (a .plan)) (now (a .numbering))) (a .t) (a .across)) (add-one _))
+    (λ w. w .1 ∙ second-alone (p .0) (p .1 .0) (a .across) (suc (t .loop .k)) (past (p .0) (p .1 .0) (t .loop .inv) more) more
+    (first-here (c .before)) (second-here (c .before)) (p .1 .1 .0) (w .0 .left))
+    (c .if1 .came)
 
 -- and how large the sums are
 known : (c : tie.At-loop Inv-loop μ-loop) → let l = c .loop in (l .before ≤ 1200) × (l .after ≤ 1200) × (l .first ≤ 361200) × (l .second ≤ 361200) × (l .k ≤ 600)
@@ -143,15 +168,25 @@ mul-a c = omega (arith, known (c .before))
 
 shared-slice-read-a : tie.Need-shared-slice-read-a Inv-loop μ-loop
 shared-slice-read-a c =
-    let t = turn c in
+    let t = c .before .before in
     let p = begun t .pre in
     omega (arith, first-index (p .0) (p .1 .0) (t .loop .inv) (c .before .loop-test .taken))
 
-stays-requires : tie.Need-stays-requires Inv-loop μ-loop
-stays-requires c κs =
+mul-b : tie.Need-mul-b Inv-loop μ-loop
+mul-b c = omega (arith, known (c .before .before))
+
+shared-slice-read-b : tie.Need-shared-slice-read-b Inv-loop μ-loop
+shared-slice-read-b c =
     let t = turn c in
     let p = begun t .pre in
-    (p .0, (p .1 .0, second-along (p .0) (p .1 .0) (t .loop .inv) (c .before .loop-test .taken) (add-one _) (add-one _) (held-here c) (p .1 .1 .0)))
+    omega (arith, second-index (p .0) (p .1 .0) (t .loop .inv) (c .before .before .loop-test .taken))
+
+stays-requires : tie.Need-stays-requires Inv-loop μ-loop
+stays-requires c κs =
+    let t = turn (c .before) in
+    let p = begun t .pre in
+    let more = c .before .before .before .loop-test .taken in
+    (p .0, (p .1 .0, second-past (p .0) (p .1 .0) (t .loop .inv) more (add-one _) (first-here (c .before)) (second-here (c .before)) (p .1 .1 .0) (c .if1 .taken)))
 
 pair-requires : tie.Need-pair-requires Inv-loop μ-loop
 pair-requires c κs = search needs
@@ -170,10 +205,11 @@ loop-less c = search needs
 
 loop-again : tie.Need-loop-again Inv-loop μ-loop
 loop-again c =
-    let m = c .before .before .before in
+    let j = c .before .before in
+    let m = j .before in
     let t = turn m in
     let p = begun t .pre in
-    count-more (p .0) (p .1 .0) (t .loop .inv) (m .before .loop-test .taken) (add-one _) (add-one _) (add-one _) (held-here m) (c .before .before .stays .ensures)
+    count-more (p .0) (p .1 .0) (t .loop .inv) (m .before .before .loop-test .taken) (add-one _) (add-one _) (add-one _) (first-here m) (second-stays j)
     (p .1 .1 .0) (p .1 .1 .1) (ap (λ n. t .loop .before + n) (c .before .pair .ensures .0)) (ap (λ n. t .loop .after + n) (c .pair2 .ensures .0))
 
 returns : tie.Need-returns Inv-loop μ-loop
@@ -203,6 +239,8 @@ count-past-spec =
     add-second-2
     mul-a
     shared-slice-read-a
+    mul-b
+    shared-slice-read-b
     stays-requires
     pair-requires
     add-before
