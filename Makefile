@@ -1,5 +1,5 @@
-# make demo      the examples: four texts compiled, filed, checked and run, a star numbered otherwise, a large site solved by Crout and by
-#                sweeps, and forty weather cases solved by one call
+# make demo      the examples: four texts compiled, filed, checked and run, what a solution misses and how that makes a bad one better, a
+#                star numbered otherwise, a large site solved by Crout and by sweeps, and forty weather cases solved by one call
 # make pictures  docs/pictures, drawn anew
 # make handbook  docs/HANDBOOK.md, counted anew
 # make test      the gate
@@ -13,16 +13,18 @@ PROVED = crates.txt $(shell find crates -type f)
 
 CC = gcc
 CFLAGS = -std=c11 -O2 -Wall -Wextra -Werror -pedantic
-SHARED = build/basics.o build/plan_text.o build/plan.o
+SHARED = build/basics.o build/plan_text.o build/plan.o build/exact.o
 HEADERS = include/crout.h $(wildcard examples/*.h)
 
 .PHONY: demo pictures handbook test bench clean
 
-demo: build/sheet build/order build/site build/weather
+demo: build/sheet build/miss build/refine build/order build/site build/weather
 	build/sheet examples/document002.txt build/document002.crout
 	build/sheet examples/heating.txt build/heating.crout
 	build/sheet examples/nearly_equal.txt build/nearly_equal.crout
 	build/sheet examples/looks_cut_off.txt build/looks_cut_off.crout
+	build/miss examples/heating.txt
+	build/refine examples/grid.txt
 	build/order examples/star.txt
 	build/site
 	build/weather
@@ -55,7 +57,7 @@ test:
 bench: $(LIBRARY)
 	tests/cargo run --offline --release --manifest-path bench/Cargo.toml
 
-build/sheet build/spy build/order build/site build/weather build/handbook: build/%: build/%.o $(SHARED) $(LIBRARY)
+build/sheet build/miss build/refine build/spy build/order build/site build/weather build/handbook: build/%: build/%.o $(SHARED) $(LIBRARY)
 	$(CC) $(LDFLAGS) $^ -o $@
 
 build/%.o: examples/%.c $(HEADERS) Makefile

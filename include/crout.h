@@ -35,7 +35,7 @@ enum crout_refusal_number {
     CROUT_OPERAND = 12,      /* the record */
     CROUT_UNFINISHED = 13,
     CROUT_LENGTHS = 14,
-    CROUT_NOT_FINITE = 15,   /* the position in a, or if all of a is finite in b, from 1 */
+    CROUT_NOT_FINITE = 15,   /* the position, from 1, in a, if all of a is finite in b, if all of b is too in a given x */
     CROUT_OVERFLOW = 16,     /* the record */
     CROUT_ZERO = 17,         /* the record */
     CROUT_FILE_BYTES = 18,
@@ -44,6 +44,7 @@ enum crout_refusal_number {
     CROUT_LIMIT = 21,
     CROUT_NOT_HELD = 22,
     CROUT_LIST_SHORT = 23,
+    CROUT_REMAINDER = 24,
     CROUT_SIDES = 25,
     CROUT_DIAGONAL_MISSING = 26, /* the first row r whose place (r, r) is not in the plan */
     CROUT_UNSETTLED = 27,
@@ -104,12 +105,13 @@ static inline const char *crout_refusal_text(uint32_t number) {
         return "the program ends with an entry open or before all of C, Y and X are closed: "
                "the program is cut off or damaged; fetch it or compile the plan again";
     case CROUT_LENGTHS:
-        return "a slice has not the length that the program wants: "
+        return "a slice has not the length that the program or the plan wants: for a run "
                "lend a, b, c, y and x with as many entries as words 1, 0, 2, 0 and 0 say, and y with none if word 2 is 0; "
-               "for many right sides b, y and x with so many for each";
+               "for many right sides b, y and x with so many for each; "
+               "for what is left over a with as many as the plan has labels, b and x with as many as the order";
     case CROUT_NOT_FINITE:
-        return "a coefficient or a right side is infinite or not a number: correct the one at the position that the detail gives, "
-               "in a, or if all of a is finite in b";
+        return "a coefficient, a right side or an entry of a given x is infinite or not a number: "
+               "correct the one at the position that the detail gives, in a, if all of a is finite in b, if all of b is too in x";
     case CROUT_OVERFLOW:
         return "a result is too large for a double: scale the equations, or if sweeps move ever further run the Crout program; "
                "the detail is the record";
@@ -130,6 +132,8 @@ static inline const char *crout_refusal_text(uint32_t number) {
                "ask for a place that has a slot";
     case CROUT_LIST_SHORT:
         return "the list for a path is too short: lend one entry more than the order";
+    case CROUT_REMAINDER:
+        return "the slice for what is left over has fewer or more than 66 words for each row: lend exactly 66 times the order";
     case CROUT_SIDES:
         return "the number of right sides is outside 1 to 64: run them in calls of at most 64";
     case CROUT_DIAGONAL_MISSING:
@@ -213,6 +217,14 @@ uint64_t crout_count_plans(uint32_t n, uint64_t out[5]);
    Refusals 1 to 5, 29. */
 uint64_t crout_order(uint32_t n, const uint32_t *plan, size_t plan_len, uint32_t trials, uint32_t *work, size_t work_len,
                      uint32_t *numbering, size_t numbering_len, uint64_t out[3]);
+
+/* What is left over of each row of a plan of order n, exactly: b(r) minus the sum of a times x over the plan's places of row r, times
+   2^2148, which makes it a whole number. a has plan_len entries, b and x have n, and x is any finite numbers; no pivot is required. words
+   has 66 * n words: those of row r are words[66 * (r - 1)] and the 65 after it, two's complement, low word first, so that the number is
+   zero where all 66 are and negative where the last one's top bit is set. It always fits. A refusal leaves words unchanged.
+   Refusals 1, 3, 4, 14, 15, 24. */
+uint64_t crout_residual(uint32_t n, const uint32_t *plan, size_t plan_len, const double *a, size_t a_len, const double *b, size_t b_len,
+                        const double *x, size_t x_len, uint64_t *words, size_t words_len);
 
 /* Writes words as a program file. out: bytes written, 0, 0. Refusals 7 and 19. */
 uint64_t crout_write(const uint32_t *words, size_t words_len, uint8_t *bytes, size_t bytes_len, uint64_t out[3]);

@@ -50,8 +50,9 @@ g++ -std=c++11 "${strict[@]}" -x c++ tests/c/texts.c -o $at/texts_cpp
 $at/texts_c
 $at/texts_cpp
 
-for name in sheet spy order site weather handbook; do
-    gcc -std=c11 "${strict[@]}" examples/$name.c examples/plan.c examples/plan_text.c examples/basics.c $library -o $at/$name
+shared=(examples/basics.c examples/plan_text.c examples/plan.c examples/exact.c)
+for name in sheet miss refine spy order site weather handbook; do
+    gcc -std=c11 "${strict[@]}" examples/$name.c "${shared[@]}" $library -o $at/$name
 done
 
 # the program in the README
@@ -176,6 +177,22 @@ says "$usage" 2 $at/order examples/star.txt 1 2
 says "$usage" 2 $at/order examples/star.txt -1
 $at/order examples/star.txt >/dev/full 2>$at/said && fail "order's lost output went unnoticed"
 grep -q '^standard output: ' $at/said || fail "order's lost output wasn't reported"
+
+# miss: what solutions leave over, also where no double is as small or as large, a set that is refused, and a plan that is
+same tests/examples/heating_miss.out 0 $at/miss examples/heating.txt
+same tests/examples/extremes.out 0 $at/miss tests/examples/extremes.txt
+$at/miss tests/examples/endings.txt >$at/said && fail "miss passed over a set that should have been solved"
+says "$missing" 1 $at/miss tests/examples/missing.txt
+says 'usage: miss FILE.txt' 2 $at/miss
+$at/miss examples/heating.txt >/dev/full 2>$at/said && fail "miss's lost output went unnoticed"
+grep -q '^standard output: ' $at/said || fail "miss's lost output wasn't reported"
+
+# refine: the error before and after each step, and a plan that is refused
+same tests/examples/refine.out 0 $at/refine examples/grid.txt
+says "$missing" 1 $at/refine tests/examples/missing.txt
+says 'usage: refine FILE.txt' 2 $at/refine
+$at/refine examples/grid.txt >/dev/full 2>$at/said && fail "refine's lost output went unnoticed"
+grep -q '^standard output: ' $at/said || fail "refine's lost output wasn't reported"
 
 # bad lines
 broken '1: the text ends without an order' '# nothing\n'

@@ -2,8 +2,9 @@
 //! nanoseconds for each record (and, for a run, each product), ours first. Beside a run stand dense Crout and, where it is
 //! installed, KLU, beside the compact program ours of the plain one, and beside a program with spare records ours of the compiled
 //! one. Many right sides at once stand beside as many runs, paths beside a compilation of their plan; a better numbering has
-//! nanoseconds for each trial. Sweeps stand beside one Crout run of the same system, on some networks and then on grids of rising
-//! orders. The callers take turns, and what they may write is cleared before each timing.
+//! nanoseconds for each trial, and what is left over of a solution nanoseconds for each product. Sweeps stand beside one Crout run of
+//! the same system, on some networks and then on grids of rising orders. The callers take turns, and what they may write is cleared
+//! before each timing.
 //!
 //! The last table has the time of a run against the order. `--csv FILE` and `--plot FILE` write it as CSV and as a picture; with
 //! `growth` nothing else is measured.
@@ -32,6 +33,7 @@ mod order;
 mod path;
 mod plain;
 mod plot;
+mod residual;
 mod run;
 mod sweep;
 mod table;
@@ -102,6 +104,7 @@ fn beside() {
     cases.into_iter().for_each(run::compact);
     table::head("many right sides", &many::COLUMNS);
     [&large, &grid].into_iter().for_each(many::many);
+    residual::residuals(&cases);
     table::head("sweeps", &sweep::COLUMNS);
     sweep::sweeps();
     sweep::searches();

@@ -3,7 +3,7 @@
 
    GROUPS says how many groups of functions the library has: 1 labels, 2 compile, 3 check, write and read, 4 run and solve, 5 run many
    right sides, 6 compare a program with a plan, 7 show a path, 8 tell whether a plan costs most, 9 count plans, 10 find a better
-   numbering. */
+   numbering, 11 tell what is left over. */
 #include "crout.h"
 
 #include <stdio.h>
@@ -11,7 +11,7 @@
 #include <string.h>
 
 #ifndef GROUPS
-#define GROUPS 10
+#define GROUPS 11
 #endif
 
 #define COUNT(row) (sizeof(row) / sizeof((row)[0]))
@@ -659,6 +659,79 @@ static void numberings_refused(void) {
 }
 
 #endif
+#if GROUPS >= 11
+
+static uint64_t left[140];
+
+/* What the call returns for a plan of at most order 2 and so many words, with the words full of sevens before it. */
+static uint64_t left_over(uint32_t n, const uint32_t *plan, size_t plan_len, const double *a, const double *b, const double *given_x,
+                          size_t words_len) {
+    size_t k;
+    for (k = 0; k < COUNT(left); k++)
+        left[k] = 7;
+    return crout_residual(n, plan, plan_len, a, plan_len, b, n, given_x, n, left, words_len);
+}
+
+/* Whether the words from the given one on are a row: zeros below word at, this word there, and all above it alike. */
+static int row_is(size_t from, size_t at, uint64_t word, uint64_t above) {
+    size_t k;
+    for (k = 0; k < 66; k++)
+        if (left[from + k] != (k < at ? 0 : k == at ? word : above))
+            return 0;
+    return 1;
+}
+
+/* Whether the words from the given one on have their sevens. */
+static int sevens_from(size_t from) {
+    size_t k;
+    for (k = from; k < COUNT(left); k++)
+        if (left[k] != 7)
+            return 0;
+    return 1;
+}
+
+static void leftovers(void) {
+    const uint32_t plan[] = {2, 3}, full[] = {1, 2, 3, 4};
+    const double a[] = {1, 3}, b[] = {5, 7}, two_four[] = {2, 4};
+    const double v1_a[] = {2, 4, 1, 4}, v1_b[] = {4, 12}, v1_x[] = {1, 2}, printed[] = {1 + 0x1p-52, 2};
+    const double half = 0.5, zero = 0, one = 1, smallest = 0x1p-1074, least_normal = 0x1p-1022, largest = 0x1.fffffffffffffp1023;
+    const uint32_t first_row[] = {1, 3};
+    const double there_and_back[] = {0x1p-1074, -0x1p-1074}, zeros[] = {0, -0.0}, tiny[] = {0x1p-1074, 0x1p-1074};
+    expect(left_over(1, full, 1, &half, &zero, &one, 66) == 0 && row_is(0, 33, 0xfffffff800000000u, UINT64_MAX), "less a half");
+    expect(sevens_from(66), "the words past a row");
+    expect(left_over(1, full, 1, &smallest, &zero, &smallest, 66) == 0 && row_is(0, 0, UINT64_MAX, UINT64_MAX), "less the smallest");
+    expect(left_over(1, full, 1, &least_normal, &zero, &one, 66) == 0 && row_is(0, 17, (uint64_t)-1 << 38, UINT64_MAX), "less 2^-1022");
+    expect(left_over(2, first_row, 2, there_and_back, zeros, tiny, 132) == 0 && row_is(0, 0, 0, 0) && row_is(66, 0, 0, 0), "-1 and back");
+    expect(left_over(2, plan, 2, a, b, two_four, 132) == 0 && row_is(0, 33, 0xffffff9000000000u, UINT64_MAX), "two rows, the first");
+    expect(row_is(66, 33, 0x5000000000u, 0) && sevens_from(132), "two rows, the second");
+    expect(left_over(2, full, 4, v1_a, v1_b, v1_x, 132) == 0 && row_is(0, 0, 0, 0) && row_is(66, 0, 0, 0), "an exact solution");
+    expect(left_over(2, full, 4, v1_a, v1_b, printed, 132) == 0 && row_is(0, 32, (uint64_t)-1 << 49, UINT64_MAX), "a printed one, row 1");
+    expect(row_is(66, 32, (uint64_t)-1 << 50, UINT64_MAX), "a printed one, row 2");
+    expect(left_over(1, full, 1, &largest, &largest, &one, 66) == 0 && row_is(0, 0, 0, 0), "the largest, cancelled");
+    expect(left_over(1, full, 0, a, &one, &largest, 66) == 0 && row_is(0, 33, (uint64_t)1 << 36, 0), "a row without places");
+}
+
+static void leftovers_refused(void) {
+    const uint32_t all[] = {1, 2, 3, 4}, twice[] = {1, 1}, five[] = {5};
+    const double ones[] = {1, 1, 1, 1};
+    double wrong[] = {1, 0x1p1000, 1, 1};
+    wrong[1] *= wrong[1];
+    expect(left_over(0, all, 0, ones, ones, ones, 0) == refusal(1, 0) && sevens_from(0), "1 of what is left over, order 0");
+    expect(left_over(601, all, 4, wrong, wrong, wrong, 132) == refusal(1, 0) && sevens_from(0), "1 of what is left over, order 601");
+    expect(left_over(2, five, 1, ones, wrong, ones, 131) == refusal(3, 1) && sevens_from(0), "3 before 15 and 24");
+    expect(left_over(2, twice, 2, ones, wrong, ones, 131) == refusal(4, 2) && sevens_from(0), "4 before 15 and 24");
+    expect(crout_residual(2, all, 4, wrong, 3, ones, 2, ones, 2, left, 132) == refusal(14, 0) && sevens_from(0), "14, a");
+    expect(crout_residual(2, all, 4, wrong, 4, ones, 3, ones, 2, left, 132) == refusal(14, 0) && sevens_from(0), "14, b");
+    expect(crout_residual(2, all, 4, wrong, 4, ones, 2, ones, 1, left, 131) == refusal(14, 0) && sevens_from(0), "14, x");
+    expect(left_over(2, all, 4, wrong, wrong + 1, wrong + 1, 131) == refusal(15, 2) && sevens_from(0), "15, a before b and x");
+    expect(left_over(2, all, 4, ones, wrong, wrong + 1, 131) == refusal(15, 2) && sevens_from(0), "15, b before x");
+    expect(left_over(2, all, 4, ones, ones, wrong + 1, 131) == refusal(15, 1) && sevens_from(0), "15, x before 24");
+    expect(left_over(2, all, 4, ones, ones, ones, 131) == refusal(24, 0) && sevens_from(0), "24, a word too few");
+    expect(left_over(2, all, 4, ones, ones, ones, 133) == refusal(24, 0) && sevens_from(0), "24, a word too many");
+    expect(left_over(1, all, 1, ones, ones, ones, 0) == refusal(24, 0) && sevens_from(0), "24, no words");
+}
+
+#endif
 
 int main(void) {
     labels();
@@ -702,6 +775,10 @@ int main(void) {
 #if GROUPS >= 10
     numberings();
     numberings_refused();
+#endif
+#if GROUPS >= 11
+    leftovers();
+    leftovers_refused();
 #endif
     return 0;
 }

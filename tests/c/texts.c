@@ -27,16 +27,16 @@ static int is_known(unsigned number) {
 
 static void texts(void) {
     unsigned k, other;
-    /* 0, the refusals 1 to 23 and 25 to 30, and unknown numbers: each is said, and no two known ones alike */
+    /* 0, the refusals 1 to 30, and unknown numbers: each is said, and no two known ones alike */
     for (k = 0; k <= 31; k++) {
         const char *text = crout_refusal_text(k);
         expect(strlen(text) > 20 && strchr(text, ':') != NULL && text[strlen(text) - 1] != '.', "a text", k);
-        expect(is_known(k) == (k <= CROUT_LIST_SHORT || (k >= CROUT_SIDES && k <= CROUT_NOT_COUNTED)), "which numbers are known", k);
+        expect(is_known(k) == (k <= CROUT_NOT_COUNTED), "which numbers are known", k);
         for (other = 0; other < k; other++)
             expect(!is_known(k) || strcmp(text, crout_refusal_text(other)) != 0, "a text that another number has too", k);
     }
     expect(CROUT_LIMIT == 21 && CROUT_NOT_HELD == 22 && CROUT_LIST_SHORT == 23, "the last numbers", 23);
-    expect(CROUT_SIDES == 25 && CROUT_DIAGONAL_MISSING == 26, "the last numbers", 26);
+    expect(CROUT_REMAINDER == 24 && CROUT_SIDES == 25 && CROUT_DIAGONAL_MISSING == 26, "the last numbers", 26);
     expect(CROUT_UNSETTLED == 27 && CROUT_DIFFERENT == 28, "the last numbers", 28);
     expect(CROUT_NUMBERING == 29 && CROUT_NOT_COUNTED == 30, "the last numbers", 30);
 }

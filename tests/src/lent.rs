@@ -26,6 +26,15 @@ impl Entry for u32 {
     }
 }
 
+impl Entry for u64 {
+    fn from_bits(bits: u64) -> Self {
+        bits
+    }
+    fn bits(self) -> u64 {
+        self
+    }
+}
+
 impl Entry for f64 {
     fn from_bits(bits: u64) -> Self {
         f64::from_bits(bits)

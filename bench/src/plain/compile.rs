@@ -13,7 +13,7 @@ pub fn compile(n: u32, plan: &[u32], work: &mut [u32], words: &mut [u32]) -> Res
 }
 
 /// 3 and 4: the first bad label.
-fn judge(n: u32, plan: &[u32]) -> Result<(), Refusal> {
+pub(super) fn judge(n: u32, plan: &[u32]) -> Result<(), Refusal> {
     let mut before = 0;
     for (position, &label) in (1..).zip(plan) {
         if label < 1 || label > n * n {

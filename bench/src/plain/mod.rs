@@ -1,5 +1,6 @@
 //! The compilers, the checker, the comparison with a plan, the search for a path, the count of plans, the trials for a better numbering, the
-//! runners and the file's writer and reader as one would write them in plain Rust, with the same checks and operations; and dense Crout.
+//! runners, what is left over of a solution, and the file's writer and reader as one would write them in plain Rust, with the same checks
+//! and operations; and dense Crout.
 
 pub mod census;
 pub mod check;
@@ -11,6 +12,7 @@ pub mod file;
 pub mod many;
 pub mod order;
 pub mod path;
+pub mod residual;
 pub mod run;
 pub mod sweep;
 #[cfg(test)]

@@ -8,7 +8,7 @@ use crout_tests::random::Random;
 use crout_tests::reading::dense::At;
 use crout_tests::{programs, reading};
 
-use super::{Refusal, check, compact, compare, compile, dense, file, many, order, path, run};
+use super::{Refusal, check, compact, compare, compile, dense, file, many, order, path, residual, run};
 
 /// A call that compiles: order, plan, work numbers and words.
 type Call<T> = fn(u32, &[u32], &mut [u32], &mut [u32]) -> Result<T, Refusal>;
@@ -357,4 +357,29 @@ fn the_same_numbering() {
     }
     assert_eq!(refused, BTreeSet::from([1, 2, 3, 4, 5, 29]));
     assert!(kept > 2000 && lost > 200 && settled > 500, "{kept} kept, {lost} not accepted, {settled} settled");
+}
+
+/// Values of all kinds, some not finite, and slices of wrong lengths; no pivot is required.
+#[test]
+fn the_same_residual() {
+    let random = &mut Random(14);
+    let mut met = BTreeSet::new();
+    for (mut n, mut plan) in networks::plans(14, 6000) {
+        damage(&mut n, &mut plan, random);
+        let row = |len: usize, random: &mut Random| {
+            let len = if random.chance(0.02) { random.below(len + 2) } else { len };
+            let mut row = VALUES[random.below(VALUES.len())].row(len, random);
+            row.iter_mut().rev().take(1).filter(|_| random.chance(0.03)).for_each(|value| *value = f64::INFINITY);
+            row
+        };
+        let [a, b, x] = [plan.len(), n as usize, n as usize].map(|len| row(len, random));
+        let len = residual::WORDS * n as usize;
+        let mut words = vec![7; if random.chance(0.05) { random.below(len + 9) } else { len }];
+        let mut read_words = words.clone();
+        let verdict = residual::residual(n, &plan, &a, &b, &x, &mut words);
+        let read = reading::residual::residual(n, &plan, &a, &b, &x, &mut read_words);
+        assert!(verdict == read && words == read_words, "order {n}, {plan:?} {a:?} {b:?} {x:?}");
+        met.insert(verdict.map_or_else(|(number, _)| number, |()| 0));
+    }
+    assert_eq!(met, BTreeSet::from([0, 1, 3, 4, 14, 15, 24]));
 }

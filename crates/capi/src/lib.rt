@@ -1,4 +1,4 @@
-// The functions exported for C: document 01, "The C boundary"; document 02, A.1, A.2, A.6, A.7 and A.10 to A.14. The header is include/crout.h.
+// The functions exported for C: document 01, "The C boundary"; document 02, A.1, A.2, A.4, A.6, A.7 and A.10 to A.14. The header is include/crout.h.
 use answers::compile_answer;
 use answers::costs_answer;
 use answers::file_answer;
@@ -19,6 +19,7 @@ ghost use Rattle.model.specs.Path.{tracing, workTraced};
 ghost use Rattle.model.specs.Dearest.{costs, workCosted};
 ghost use Rattle.model.specs.Census.{countable, planCounts};
 ghost use Rattle.model.specs.Numbering.{renumbers, renumberedWork, numberingAfter};
+ghost use Rattle.model.specs.Residual.{measuring, measured};
 ghost use Rattle.model.specs.Formula.{C, Y, X};
 ghost use Rattle.model.specs.Many.{ranMany, verdict, replies, leavesMany};
 ghost use Rattle.model.specs.Run.{ran, reply, leaves};
@@ -171,6 +172,23 @@ pub extern "C" fn crout_order(
         ≡ renumberingNumbers (renumbers n (now (plan .entry)) trials (length (now (work .entry))) (length (now (numbering .entry)))) ⌝ }
 {
     order_answer(ordering::order(n, plan, trials, work, numbering), out)
+}
+
+// What is left over of each row of a plan of order n, exactly: b less the sum of a times x, as a whole number of 2^-2148, in 66 words each.
+#[no_mangle]
+pub extern "C" fn crout_residual(
+    n: u32,
+    plan: &[u32],
+    a: &[f64],
+    b: &[f64],
+    x: &[f64],
+    words: &mut [u64],
+) -> u64
+    ensures answer { λ r. ⌜ r
+        ≡ verdictNumber (measuring n (now (plan .entry)) (now (a .entry)) (now (b .entry)) (now (x .entry)) (length (now (words .entry)))) ⌝ }
+    ensures words { λ r. ⌜ now (words .exit) ≡ measured n (now (plan .entry)) (now (a .entry)) (now (b .entry)) (now (x .entry)) (now (words .entry)) ⌝ }
+{
+    verdict_answer(residual::residual(n, plan, a, b, x, words))
 }
 
 // Writes words as a program file. out: the bytes written.

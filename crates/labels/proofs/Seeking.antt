@@ -4,8 +4,12 @@ use native.Mathlib.Nat.{eq-or-lt-of-le}
 use native.Mathlib.Omega.{arith}
 use mathlib.Core.Path.{_≡_, refl, sym, ap, _∙_}
 use mathlib.Core.Logic.{⊎-elim}
+use lib.ListN.{length, getD}
 use Rattle.model.specs.Label.{label}
 use Rattle.model.proofs.Labels.{Inside, label-first, label-next, label-end, label-in-column, label-in-row}
+use Rattle.model.specs.Fill.{Plan}
+use Rattle.model.specs.Compile.{judged, good}
+use Rattle.model.proofs.Plans.{labels-rise}
 use Rattle.labels.specs.Batches.{Reaches, Holds}
 use Rattle.labels.specs.declared.Batch.{Batch}
 
@@ -80,3 +84,9 @@ module _ {N k : ℕ} {b : Batch} (h : Holds N k b) where
         record { row-low = r .low; row-high = r .high; column-low = omega (arith, r .low); column-high = omega (arith, r .high, h .ends) },
         label-in-row N (b .number) _ (r .low) (r .high) (omega (arith, r .past)) ∙ omega (arith, r .begins, r .past, r .high),
       )
+
+-- the batch of a label is none past that of a later one
+pub reaches-later : (N : ℕ) (L : Plan) (a b : ℕ) {batch : Batch} → judged N 0 1 L ≡ good → a < b → b < length L → Holds N (getD L a 0) batch → Reaches N (getD L b 0) batch
+reaches-later N L a b rises h below holds =
+    let r = holds .reaches in
+    record { low = r .low; high = r .high; begins = r .begins; past = omega (arith, r .past, labels-rise N L a b rises h below) }

@@ -7,8 +7,8 @@ use mathlib.Core.Bool.{Bool, true, false}
 use mathlib.Core.List.{List, _++_, map}
 use lib.Dec.{ltb}
 use borrow.Author.Tests.{ltb-true, ltb-false}
-use lib.ListN.{length, getD, take, drop, set, length-drop}
-use lib.Seq.{length-take-le, take-all, getD-take, getD-drop, take-add, drop-drop, take-set-le, take-set-lt, drop-set-lt, drop-set-add}
+use lib.ListN.{length, getD, take, drop, set, length-append, length-drop, take-append-drop}
+use lib.Seq.{length-take-le, take-all, getD-take, getD-drop, take-add, drop-drop, take-set-le, take-set-lt, drop-set-lt, drop-set-add, drop-at, take-at, drop-append-le, take-append-le}
 use Rattle.model.specs.Lists.{rising, joined}
 use Rattle.model.specs.Many.{part, parts}
 use Rattle.model.proofs.Lists.{rising-agree, map-rising}
@@ -69,3 +69,49 @@ module _ {A : Type 0} (N : ℕ) where
           let above : suc r ≤ j = omega (arith, ltb-false j r e) in
           let room = mul-le-mul-right N above in
           ap (take N) (drop-set-lt (j * N) vs (r * N + i) v (omega arith))
+
+-- ---- a part lent and back
+
+-- the row with part r back
+abbrev pub withPart : {A : Type 0} → ℕ → ℕ → List A → List A → List A
+withPart N r vs back = take (r * N) vs ++ (back ++ drop N (drop (r * N) vs))
+
+module _ {A : Type 0} (N r : ℕ) (vs back : List A) (long : r * N + N ≤ length vs) (same : length back ≡ N) where
+  back-from : drop (r * N) (withPart N r vs back) ≡ back ++ drop N (drop (r * N) vs)
+  back-from = drop-at (take (r * N) vs) (back ++ drop N (drop (r * N) vs)) (r * N) (length-take-le (r * N) vs (omega arith))
+
+  pub with-length : length (withPart N r vs back) ≡ length vs
+  with-length = let front = length-take-le (r * N) vs (omega arith) in simp (length-append, length-drop) (omega arith)
+
+  -- that part is what came back, and the others are as before
+  pub with-same : part N (withPart N r vs back) r ≡ back
+  with-same = ap (take N) back-from ∙ take-at back (drop N (drop (r * N) vs)) N same
+
+  with-below : (j : ℕ) → j < r → part N (withPart N r vs back) j ≡ part N vs j
+  with-below j h = front _ ∙ sym (front (drop (r * N) vs)) ∙ ap (λ l. part N l j) (take-append-drop (r * N) vs)
+    where
+      front : (l : List A) → part N (take (r * N) vs ++ l) j ≡ part N (take (r * N) vs) j
+      front l =
+          let low = mul-le-mul-right N h in
+          let all = length-take-le (r * N) vs (omega arith) in
+          ap (take N) (drop-append-le (j * N) (take (r * N) vs) l (omega arith))
+          ∙ take-append-le N (drop (j * N) (take (r * N) vs)) l (omega (arith, length-drop (j * N) (take (r * N) vs)))
+
+  with-above : (j : ℕ) → r < j → part N (withPart N r vs back) j ≡ part N vs j
+  with-above j h =
+      ap (take N) (past (withPart N r vs back) ∙ ap (drop more) (ap (drop N) back-from ∙ drop-at back (drop N (drop (r * N) vs)) N same) ∙ sym (past vs))
+    where
+      more : ℕ
+      more = j * N - (r * N + N)
+
+      past : (l : List A) → drop (j * N) l ≡ drop more (drop N (drop (r * N) l))
+      past l =
+          let whole : r * N + (N + more) ≡ j * N = omega (arith, mul-le-mul-right N h) in
+          sym (drop-drop more N (drop (r * N) l) ∙ drop-drop (N + more) (r * N) l ∙ ap (λ i. drop i l) whole)
+
+  pub with-others : (j : ℕ) → (j ≡ r → ⊥) → part N (withPart N r vs back) j ≡ part N vs j
+  with-others j other = go (ltb j r) refl
+    where
+      go : (below : Bool) → ltb j r ≡ below → part N (withPart N r vs back) j ≡ part N vs j
+      go true e = with-below j (ltb-true j r e)
+      go false e = with-above j (omega (arith, ltb-false j r e))

@@ -21,7 +21,7 @@ use Rattle.model.proofs.Runs.{gated, fine-finite, finite-fine, lengths-
 -- ---- finite values
 
 -- the first, and the others
-finite-cons : (k : ℕ) (v : Float) (vs : List Float) → 1 ≤ k → notFinite k (v ∷ vs) ≡ 0 → (isFinite v ≡ true) × (notFinite (suc k) vs ≡ 0)
+pub finite-cons : (k : ℕ) (v : Float) (vs : List Float) → 1 ≤ k → notFinite k (v ∷ vs) ≡ 0 → (isFinite v ≡ true) × (notFinite (suc k) vs ≡ 0)
 unfolding notFinite
 finite-cons k v vs low e = go (isFinite v) refl e
   where

@@ -34,6 +34,7 @@ use Rattle.model.specs.Dearest.{Costs, fullPlan, costs}
 use Rattle.model.specs.Census.{countable}
 use Rattle.model.specs.Numbering as Numbering
 use Rattle.model.specs.Numbering.{Renumbering, numbered, renumbered, trialsMade, keptNumbering, numberingChecks, renumbers}
+use Rattle.model.specs.Residual.{measuring}
 use Rattle.model.specs.Solve.{replied}
 use Rattle.model.specs.File as File
 use Rattle.model.specs.File.{Filed, filed, writes, reads, wordsOf, checkFile}
@@ -488,6 +489,41 @@ not-finite-small k (v ∷ vs) = go (isFinite v) (not-finite-small (suc k) vs)
     go : (b : Bool) → notFinite (suc k) vs ≤ suc k + length vs → cond b (notFinite (suc k) vs) k ≤ k + suc (length vs)
     go true h = omega arith
     go false h = omega arith
+
+-- ---- what is left over: 1, 3, 4, 14, 15 and 24
+
+pub measuring-small : (N : ℕ) (L : Plan) (A B E : List Float) (words : ℕ) → SmallVerdict (1 + length L + length A + length B + length E) (measuring N L A B E words)
+unfolding measuring orderly
+measuring-small N L A B E words =
+    go (isOrder N) (judged N 0 1 L) (eqb (length A) (length L) && (eqb (length B) N && eqb (length E) N)) (eqb (notFinite 1 A) 0) (eqb (notFinite 1 B) 0)
+    (eqb (notFinite 1 E) 0) (eqb words (66 * N)) refl
+  where
+    go : (order : Bool) (labels : Labels) (fits a b x w : Bool) → judged N 0 1 L ≡ labels
+        → SmallVerdict (1 + length L + length A + length B + length E)
+        (elim (elim order as (λ b. Labels) [ false ↦ bad 1 0 | true ↦ labels ]) as (λ l. Verdict) [
+          | bad r d ↦ Check.refusal r d
+          | good ↦ elim fits as (λ b. Verdict) [
+            | false ↦ Check.refusal 14 0
+            | true ↦ elim a as (λ b. Verdict) [
+              | false ↦ Check.refusal 15 (notFinite 1 A)
+              | true ↦ elim b as (λ b. Verdict) [
+                | false ↦ Check.refusal 15 (notFinite 1 B)
+                | true ↦ elim x as (λ b. Verdict) [
+                  | false ↦ Check.refusal 15 (notFinite 1 E)
+                  | true ↦ elim w as (λ b. Verdict) [ false ↦ Check.refusal 24 0 | true ↦ fine ]
+                ]
+              ]
+            ]
+          ]
+        ])
+    go false labels fits a b x w j = omega arith
+    go true (bad r d) fits a b x w j = omega (arith, judged-small N 0 1 L r d j)
+    go true good false a b x w j = omega arith
+    go true good true false b x w j = omega (arith, not-finite-small 1 A)
+    go true good true true false x w j = omega (arith, not-finite-small 1 B)
+    go true good true true true false w j = omega (arith, not-finite-small 1 E)
+    go true good true true true true false j = omega arith
+    go true good true true true true true j = tt
 
 -- the detail of 15 is one of these, that of 21 is 0
 values-small : (A B : List Float) (limit : Float) (r d : ℕ) → checkValues A B limit ≡ Check.refusal r d → Small (1 + length A + length B) r d

@@ -1,12 +1,12 @@
--- Document 01's "Known plans and values" and its listing, and values for document 02's A.1, A.2, A.5, A.6, A.7 and A.9 to A.14, as one theorem about the
+-- Document 01's "Known plans and values" and its listing, and values for document 02's A.1, A.2, A.4 to A.7 and A.9 to A.14, as one theorem about the
 -- definitions.
-use Prim.Native.Nat.{ℕ, suc, _*_}
+use Prim.Native.Nat.{ℕ, suc, _*_, _-_, _^_}
 use mathlib.Core.Bool.{true, false}
 use mathlib.Core.Path.{_≡_, refl}
 use mathlib.Core.List.{List, [], _∷_, _++_, map}
-use lib.IntN.{pos, negsuc}
+use lib.IntN.{pos, negsuc, negℤ}
 use lib.ListN.{take, drop, replicate}
-use lib.Ieee.{Float, inf, fin, binary64, ofInt, mul, sub, div, neg, lt, eq, le}
+use lib.Ieee.{Float, nan, inf, fin, binary64, ofInt, mul, sub, div, neg, lt, eq, le}
 use Rattle.model.specs.Lists.{rising, falling, joined, kept, total, some, count}
 use Rattle.model.specs.Label.{isPlace, label, column, row, places, place}
 use Rattle.model.specs.Fill.{Plan, positionFrom, position, inPlan, heldWithin, held, heldPlaces, slots, slot}
@@ -47,6 +47,7 @@ use Rattle.model.specs.Numbering.{
   numberingAfter,
   renumberedWork,
 }
+use Rattle.model.specs.Residual.{exact, lessRow, residual, residue, words64, stored, measuring, measured}
 use Rattle.model.specs.Marked.{Placed, solvedAs, refusedAt, valueAt, placed, productsMade}
 
 abbrev int : ℕ → Float
@@ -393,6 +394,13 @@ pub record Known : Type 0 where
   r3 : (renumbers 1 one 7 1 1 ≡ numbered 1 0 0) × (renumbers 2 (1 ∷ 2 ∷ 3 ∷ []) 5 4 3 ≡ Numbering.refused 29 0) × (renumbers 2 (2 ∷ 3 ∷ []) 5 4 3 ≡ Numbering.refused 5 1)
   r4 : (renumberedWork 2 (1 ∷ 2 ∷ 3 ∷ []) 5 (replicate 5 9) 3 ≡ 1 ∷ 2 ∷ 3 ∷ 4 ∷ 9 ∷ []) × (numberingAfter 2 (1 ∷ 2 ∷ 3 ∷ []) 5 4 (7 ∷ 7 ∷ 7 ∷ []) ≡ 7 ∷ 7 ∷ 7 ∷ [])
       × (renumberedWork 2 (2 ∷ 3 ∷ []) 5 (replicate 5 9) 2 ≡ 0 ∷ 0 ∷ 0 ∷ 0 ∷ 9 ∷ [])
+  -- A.4: rows of a plan without a pivot; a half, and the smallest product, as words; 1, 14, 15 in X and 24
+  q1 : (residual 2 (2 ∷ 3 ∷ []) (ints (1 ∷ 3 ∷ [])) (ints (5 ∷ 7 ∷ [])) (ints (2 ∷ 4 ∷ [])) 1 ≡ negℤ (pos (7 * 2 ^ 2148)))
+      × (residual 2 (2 ∷ 3 ∷ []) (ints (1 ∷ 3 ∷ [])) (ints (5 ∷ 7 ∷ [])) (ints (2 ∷ 4 ∷ [])) 2 ≡ pos (5 * 2 ^ 2148))
+  q2 : (measured 1 one (half ∷ []) (plusZero ∷ []) (int 1 ∷ []) (replicate 66 9) ≡ replicate 33 0 ++ ((2 ^ 64 - 2 ^ 35) ∷ replicate 32 (2 ^ 64 - 1)))
+      × (measured 1 one (smallest ∷ []) (plusZero ∷ []) (smallest ∷ []) (replicate 66 9) ≡ replicate 66 (2 ^ 64 - 1))
+  q3 : (measuring 0 [] [] [] [] 0 ≡ Check.refusal 1 0) × (measuring 1 one [] (int 1 ∷ []) (int 1 ∷ []) 66 ≡ Check.refusal 14 0)
+      × (measuring 1 one (int 1 ∷ []) (int 1 ∷ []) (nan ∷ []) 65 ≡ Check.refusal 15 1) × (measuring 1 one (int 1 ∷ []) (int 1 ∷ []) (int 1 ∷ []) 65 ≡ Check.refusal 24 0)
   -- the listing for input `1 1`, a record a line
   listing : compiled 1 one
       ≡ 1 ∷ 1 ∷ 1 ∷ 1
@@ -420,6 +428,7 @@ unfolding rising falling joined kept total some count label column row places pl
     parts ranMany readBy read replies sharedC leavesMany sameRecord compared compares workCompared seen valueAt placed productsMade
     isPlace inPlan named distinct leads isPath tracing workTraced fullPlan costs workCosted mostProducts sets plans plansMissing countable planCounts
     givenNumbering renumbered exchanged turn tried afterTrials trialsMade keptNumbering numberingChecks renumbers numberingAfter renumberedWork
+    exact lessRow residual residue words64 stored measuring measured
     mul sub div neg lt eq le ofInt
 known = record {
   p1 = (refl, refl, refl, refl, refl, refl);
@@ -484,5 +493,8 @@ known = record {
   r2 = (refl, refl);
   r3 = (refl, refl, refl);
   r4 = (refl, refl, refl);
+  q1 = (refl, refl);
+  q2 = (refl, refl);
+  q3 = (refl, refl, refl, refl);
   listing = refl;
 }

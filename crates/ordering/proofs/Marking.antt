@@ -11,16 +11,12 @@ use lib.ListN.{length, length-set, getD, set, drop, replicate, length-replicate,
 use lib.Seq.{getD-set-same, getD-set-other, drop-set-lt, drop-at}
 use Rattle.model.specs.Label.{label, place}
 use Rattle.model.specs.Fill.{Plan, positionFrom, position}
-use Rattle.model.specs.Compile.{judged, good}
 use Rattle.model.specs.Path.{named}
 use Rattle.model.specs.Numbering.{Numbering, givenAt, renumbered, IsNumbering}
 use Rattle.model.proofs.Labels.{Inside, label-range, label-injective, place-range, label-of-place}
-use Rattle.model.proofs.Plans.{labels-rise}
 use Rattle.model.proofs.Named.{position-named}
 use Rattle.model.proofs.Route.{named-append}
 use Rattle.model.proofs.Renumbered.{given-inside, renumbered-named}
-use Rattle.labels.specs.Batches.{Reaches, Holds}
-use Rattle.labels.specs.declared.Batch.{Batch}
 use Rattle.ordering.specs.Numbered.{Inverse, Moved, MarksAnew}
 use Rattle.ordering.proofs.Positions.{position-of, positions-range, given-there}
 
@@ -104,9 +100,3 @@ module _ {N : ℕ} {p : Numbering} (n : IsNumbering N p) where
             let at : label N (place N (suc k) .0) (place N (suc k) .1) - 1 ≡ k = omega (arith, e) in
             ap (λ k. ltb 0 (getD work k 0)) (sym at) ∙ m .each _ _ s ∙ sym (renumbered-named N L p n _ _ s) ∙ ap (λ k. named k (renumbered N L p)) e
             ∙ sym (position-named 0 (renumbered N L p) (suc k))
-
--- the batch of a label is none past that of a later one
-pub reaches-later : (N : ℕ) (L : Plan) (a b : ℕ) {batch : Batch} → judged N 0 1 L ≡ good → a < b → b < length L → Holds N (getD L a 0) batch → Reaches N (getD L b 0) batch
-reaches-later N L a b rises h below holds =
-    let r = holds .reaches in
-    record { low = r .low; high = r .high; begins = r .begins; past = omega (arith, r .past, labels-rise N L a b rises h below) }

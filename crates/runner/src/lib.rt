@@ -349,7 +349,7 @@ fn step(
 }
 
 // The position, from 1, of the first value that is not finite; 0 if all are.
-fn first_not_finite(values: &[f64]) -> usize
+pub fn first_not_finite(values: &[f64]) -> usize
     ensures { λ r. ⌜ r ≡ Run.notFinite 1 (now (values .entry)) ⌝ }
 {
     let mut i = 0;

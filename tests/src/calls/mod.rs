@@ -35,6 +35,7 @@ pub mod labels;
 pub mod many;
 pub mod order;
 pub mod path;
+pub mod residual;
 pub mod run;
 
 /// A refusal and its detail as one number.

@@ -12,6 +12,7 @@ pub mod many;
 pub mod order;
 pub mod path;
 pub mod plan;
+pub mod residual;
 pub mod run;
 pub mod sweep;
 

@@ -82,7 +82,7 @@ pub struct Written {
 }
 
 /// The first bad label: its refusal and its position.
-fn judged(n: u32, plan: &[u32]) -> Verdict {
+pub(super) fn judged(n: u32, plan: &[u32]) -> Verdict {
     let mut before = 0;
     for (position, &label) in (1..).zip(plan) {
         if label < 1 || label > n * n {

@@ -12,10 +12,10 @@ use lib.Seq.{take-suc, take-all}
 use Rattle.model.proofs.Within.{within-range}
 use Rattle.model.proofs.Plans.{label-inside}
 use Rattle.labels.specs.Batches.{Reaches}
-use Rattle.labels.proofs.Seeking.{first-batch}
+use Rattle.labels.proofs.Seeking.{first-batch, reaches-later}
 use Rattle.ordering.specs.Numbered.{Inverse}
 use Rattle.ordering.proofs.Positions.{positions-range}
-use Rattle.ordering.proofs.Marking.{MarkedBy, index-range, marked-none, marked-more, marked-since, reaches-later}
+use Rattle.ordering.proofs.Marking.{MarkedBy, index-range, marked-none, marked-more, marked-since}
 use Rattle.ordering.proofs.mark.Statement.{statement}
 use Rattle.ordering.proofs.mark.Tie as tie
 

@@ -1,0 +1,2 @@
+-- What the contracts of `digits` cite.
+pub mod Parted

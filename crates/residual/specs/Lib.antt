@@ -1,0 +1,2 @@
+-- What the contracts of `residual` cite.
+pub mod Subtracted

@@ -1,0 +1,2 @@
+-- The laws that the proofs of `sums` share.
+pub mod Carry
