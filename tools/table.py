@@ -36,7 +36,7 @@ def snake(word):
 
 
 def respelled(name, defined):
-    parts = [re.sub(r"^getD$", "get_or", p) for p in name.split("-")]
+    parts = [re.sub(r"^getD(?![a-z])", "get_or", p) for p in name.split("-")]
     turned = [snake(p) if p else p for p in parts]
     out = turned[0]
     for i in range(1, len(parts)):

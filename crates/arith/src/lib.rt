@@ -1,5 +1,6 @@
 // One float operation, and how a value is read: document 01, "Dense Crout" and "Running"; document 02, A.1, A.5 and A.7.
 // Each result is compared with the definition's bit for bit.
+#![tactic(auto)]
 ghost use Rattle.std.specs.Prelude.{◌≡◌, false, cond, ◌&&◌};
 ghost use Rattle.model.specs.Arith as model;
 ghost use Rattle.model.specs.Formula as formula;
@@ -7,7 +8,7 @@ ghost use Rattle.model.specs.Sweep.{moves_more};
 ghost use Rattle.arith.specs.Answer.{answer_of, has_vanished};
 
 // What one operation gives. A number that a product of two nonzero factors went into as zero has a case of its own: that product vanished.
-#[derive(Drop)]
+#[derive(Clone, Copy)]
 pub enum Operation {
     Number(f64),
     Vanished(f64),

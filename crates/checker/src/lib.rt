@@ -1,5 +1,6 @@
 // A program's words, or a file's bytes, against checks 7 to 13: document 01, "Where each refusal is checked"; document 02, A.6, A.7
 // and A.11. One pass, no memory.
+#![tactic(auto)]
 ghost use Rattle.std.specs.Prelude.{◌≡◌, ◌&&◌, ◌+◌, ◌*◌, ◌≤◌, ◌<◌, ltb, length};
 ghost use Rattle.model.specs.Check.{word, whole, at_end};
 ghost use Rattle.model.specs.Check.{check_from};
@@ -15,14 +16,14 @@ use numbers::{wide, within};
 use progress::{Head, Progress};
 
 // What a check answers: nothing wrong, or a refusal's number and its detail.
-#[derive(Drop)]
+#[derive(Clone, Copy)]
 pub enum Checked {
     Fine,
     Refused { number: u32, detail: u64 },
 }
 
 // A record's four words.
-#[derive(Drop)]
+#[derive(Clone, Copy)]
 struct Record {
     kind: u32,
     p: u32,

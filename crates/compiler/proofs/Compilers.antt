@@ -4,7 +4,7 @@ use native.Mathlib.Omega.{arith}
 use mathlib.Core.Path.{◌≡◌, refl}
 use mathlib.Core.Bool.{Bool, true, false}
 use Rattle.model.specs.Fill.{Plan, missing, product_count, record_count}
-use Rattle.model.specs.Compile.{Compiler, plain, compact, sweep, wanted, spare, gap, gap_at_is, products_by, records_by, slot_numbers, numbers_by}
+use Rattle.model.specs.Compile.{Compiler, plain, compact, sweep, wanted, spare, gap, gap_at, products_by, records_by, slot_numbers, numbers_by}
 use Rattle.compiler.specs.Compilation.{crout_of, each_of}
 
 pub wanted-is : (c : Compiler) (N : ℕ) → N * N + spare c N ≡ wanted c N
@@ -25,7 +25,7 @@ each-range sweep = omega arith
 -- 5, for a missing pivot; the counts; and the slots in the work numbers
 pub record Crout (c : Compiler) (N : ℕ) (L : Plan) : Type 0 where
   pub gap_is : gap c ≡ 5
-  pub gap_at_is : gap_at_is c N L ≡ missing N L
+  pub gap_at_is : gap_at c N L ≡ missing N L
   pub products-are : products_by c N L ≡ product_count N L
   pub records-are : records_by c N L ≡ record_count N L
   pub numbers-are : numbers_by c N L ≡ slot_numbers N L

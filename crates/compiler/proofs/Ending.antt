@@ -10,7 +10,7 @@ use Rattle.model.specs.Label.{is_order}
 use Rattle.model.specs.Fill.{Plan, missing, record_count}
 use Rattle.model.specs.Program.{program, compiled}
 use Rattle.model.specs.Compact.{compact_slots, compacted}
-use Rattle.model.specs.Compile.{written, refusal, judged, good, orderly, compact, wanted, spare, gap_at_is, slots_by, records_by, program_by}
+use Rattle.model.specs.Compile.{written, refusal, judged, good, orderly, compact, wanted, spare, gap_at, slots_by, records_by, program_by}
 use Rattle.model.specs.Compile.{slot_numbers, numbers_by, work_with}
 use Rattle.model.proofs.Lists.{drop-later}
 use Rattle.model.proofs.Within.{within-range}
@@ -35,7 +35,7 @@ pub missing-ends : (again : Bool) {each N : ℕ} {L : Plan} {before work in_rows
 missing-ends again {each} {N} {L} {before} {work} {r = r} words passed each-is s gone =
     let c = crout_of again in
     let same = crout again N L in
-    let named : r.missing ≡ gap_at_is c N L = s.missing_is ∙ sym same.gap_at_is in
+    let named : r.missing ≡ gap_at c N L = s.missing_is ∙ sym same.gap_at_is in
     let clean : work ≡ work_with c N (replicate (N * N) 0) before =
     s.cleared gone
     ∙ ap (λ k. replicate k 0 ++ drop k before) (wanted-each c N each-is)
@@ -92,7 +92,7 @@ module _ {again : Bool} {N : ℕ} {L : Plan} {before work in_rows in_columns : L
     all : records ≡ records_by (crout_of again) N L
     all = count ∙ records-are ∙ sym same.records-are
 
-    whole : gap_at_is (crout_of again) N L ≡ 0
+    whole : gap_at (crout_of again) N L ≡ 0
     whole = same.gap_at_is ∙ none complete
 
     -- too few words

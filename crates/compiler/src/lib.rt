@@ -1,4 +1,5 @@
 // The compiler: document 01, "Fill and slots", "Records" and checks 1 to 6; document 02, A.7 and A.11.
+#![tactic(auto)]
 mod sweeps;
 
 ghost use Rattle.std.specs.Prelude.{◌≡◌, List, ◌++◌, ℕ, ◌+◌, ◌*◌, ◌≤◌, length, take, drop};
@@ -19,7 +20,7 @@ use slots::Filled;
 use sweeps::compile_rows;
 
 // What the compiler answers: the slots, the product count and the records of the program written, or a refusal's number and its detail.
-#[derive(Drop)]
+#[derive(Clone, Copy)]
 pub enum Compilation {
     Written {
         slots: u32,
@@ -33,7 +34,7 @@ pub enum Compilation {
 }
 
 // Which program is written: Crout's, Crout's with slots used again, or a sweep.
-#[derive(Drop)]
+#[derive(Clone, Copy)]
 enum Method {
     Plain,
     Compact,

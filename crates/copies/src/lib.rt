@@ -1,4 +1,5 @@
 // Programs edited by hand: whether a program is the one compiled for a plan, but for unused records between its own. Document 02, A.10.
+#![tactic(auto)]
 ghost use Rattle.std.specs.Prelude.{◌≡◌, true, [], length, suc, ◌+◌, ◌*◌, ◌≤◌, ◌<◌};
 ghost use Rattle.model.specs.Check.{record_at, chain};
 ghost use Rattle.model.specs.Compile.{good, orderly};
@@ -21,7 +22,7 @@ use writer::{Cursor, write_backward, write_forward, write_next};
 
 // How far a program is compared: the places done, the plan's labels among them, and the last chained record compared, 0 before the first; and
 // whether that is still the compiler's. If it isn't, 28 names it.
-#[derive(Drop)]
+#[derive(Clone, Copy)]
 pub struct Compared {
     pub done: u32,
     pub passed: u32,

@@ -1,4 +1,5 @@
 // Whether a plan costs as many products as a full table. Document 02, A.14.
+#![tactic(auto)]
 ghost use Rattle.std.specs.Prelude.{◌≡◌, ◌*◌, ◌≤◌, length};
 ghost use Rattle.model.specs.Compile.{good, orderly};
 ghost use Rattle.model.specs.Dearest.{costs, work_costed, most_products};
@@ -7,7 +8,7 @@ ghost use Rattle.costs.specs.Costed.{costs_of};
 use plans::Judged;
 
 // Whether it does, or a refusal and its detail.
-#[derive(Drop)]
+#[derive(Clone, Copy)]
 pub enum Costs {
     Yes,
     No,

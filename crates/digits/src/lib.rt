@@ -1,10 +1,11 @@
 // A finite value as a whole number of 2^-1074, and the product of two numbers of 53 binary digits. Document 02, A.4.
+#![tactic(auto)]
 ghost use Rattle.std.specs.Prelude.{◌≡◌, true, ◌+◌, ◌*◌, ◌^◌, ◌<◌};
 ghost use Rattle.model.specs.Arith.{is_finite};
 ghost use Rattle.digits.specs.Parted.{Parted};
 
 // A value's sign, its binary digits as a whole number, and by how many places these are shifted.
-#[derive(Drop)]
+#[derive(Clone, Copy)]
 pub struct Shifted {
     pub minus: bool,
     pub digits: u64,
@@ -12,7 +13,7 @@ pub struct Shifted {
 }
 
 // A number of two words.
-#[derive(Drop)]
+#[derive(Clone, Copy)]
 pub struct Wide {
     pub low: u64,
     pub high: u64,

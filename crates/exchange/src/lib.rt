@@ -1,4 +1,5 @@
 // Whether the rooms numbered t and t + 1 are kept exchanged: document 02, A.12. Of all batches two alone change, t and t + 1.
+#![tactic(auto)]
 ghost use Rattle.std.specs.Prelude.{◌≡◌, true, false, not, cond, suc, ◌-◌, ◌*◌, ◌≤◌, ltb, length, get_or};
 ghost use Rattle.model.specs.Label;
 ghost use Rattle.model.specs.Numbering.{renumbered, exchanged, tried};
@@ -12,7 +13,7 @@ use numbers::wide;
 use slots::lines::{column_of, row_of};
 
 // Slots of two lines in the places past t + 1: what they are, and what they would be after the exchange.
-#[derive(Drop)]
+#[derive(Clone, Copy)]
 pub struct Past {
     pub before: u32,
     pub after: u32,

@@ -1,4 +1,5 @@
 // Labels of places and places of labels: document 01, "Places and labels".
+#![tactic(auto)]
 ghost use Rattle.std.specs.Prelude.{◌≡◌, cond, ◌*◌, ◌≤◌, ◌<◌};
 ghost use Rattle.model.specs.Label.{is_label, sought, at};
 ghost use Rattle.model.specs.Label;
@@ -10,21 +11,21 @@ ghost use Rattle.labels.specs.Batches.{Reaches, Holds};
 use numbers::within;
 
 // The place of a label, its row and its column, or that there is none.
-#[derive(Drop)]
+#[derive(Clone, Copy)]
 pub enum Located {
     At(u32, u32),
     Outside,
 }
 
 // A batch of the table, column m from the diagonal down and then row m right of it: its number m, and the labels before it.
-#[derive(Drop)]
+#[derive(Clone, Copy)]
 pub struct Batch {
     pub number: u32,
     pub before: u32,
 }
 
 // A place of the table, by row and column.
-#[derive(Drop)]
+#[derive(Clone, Copy)]
 pub struct Entry {
     pub row: u32,
     pub column: u32,

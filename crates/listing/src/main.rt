@@ -1,4 +1,5 @@
 // The listing program: reads N and the labels of a plan, and prints the records of its program, or a refusal. Document 01, "Listing program".
+#![tactic(auto)]
 ghost use Rattle.std.specs.Prelude.{◌+◌, ◌*◌, ◌≤◌, ◌<◌, length};
 
 use compiler::Compilation;
@@ -7,7 +8,7 @@ use numbers::wide;
 use text::{Reading, Scanned};
 
 // A reading, and whether more of the input may change it.
-#[derive(Drop)]
+#[derive(Clone, Copy)]
 struct Fed {
     reading: Reading,
     more: bool,

@@ -24,7 +24,7 @@ use Rattle.sides.specs.Cells as Cells
 use Rattle.sides.specs.Cells.{cell_of, if_going, any_going}
 use Rattle.many.specs.Passes.{side_along, endings, Passed, told, ClearedEnded}
 use Rattle.many.proofs.Going.{some_goes, goes_any, none_goes}
-use Rattle.many.proofs.Side.{numbers_of_is, HoldsC, told-answer, tells, going-solved, ended_unsolved, holds-c, holds-y, holds-x, shared_c-held}
+use Rattle.many.proofs.Side.{numbers_of, HoldsC, told-answer, tells, going-solved, ended_unsolved, holds-c, holds-y, holds-x, shared_c-held}
 
 -- ---- lists of numbers
 
@@ -72,8 +72,8 @@ module _ {W : List ℕ} {count : ℕ} {A B : List Float} {limit : Float} {z : St
   all_closed r h goes = p.whole (goes_any count out r h goes)
 
   -- the numbers
-  numbers_of_is : (r : ℕ) → r < count → numbers_of_is (cell_of [] out' r) ≡ side_numbers (reply (followed (side_of r)))
-  numbers_of_is r h = ap numbers_of_is (t.changed r h) ∙ tells z (cell_of running out r) c (part N y r) (part N x r) (get_or [] r plus_zero) (side_of r) (p.stands r h)
+  numbers_of_is : (r : ℕ) → r < count → numbers_of (cell_of [] out' r) ≡ side_numbers (reply (followed (side_of r)))
+  numbers_of_is r h = ap numbers_of (t.changed r h) ∙ tells z (cell_of running out r) c (part N y r) (part N x r) (get_or [] r plus_zero) (side_of r) (p.stands r h)
 
   module _ (few : count ≤ 64) (long : length out' ≡ 257) where
     abbrev fours : List ℕ

@@ -22,8 +22,8 @@ use Rattle.sides.specs.Standing.{StandsAt}
 use Rattle.many.specs.Passes.{told}
 
 -- a side's four numbers
-abbrev pub numbers_of_is : Cell → List ℕ
-numbers_of_is cell = cell.answer ∷ cell.table ∷ cell.target ∷ cell.gone ∷ []
+abbrev pub numbers_of : Cell → List ℕ
+numbers_of cell = cell.answer ∷ cell.table ∷ cell.target ∷ cell.gone ∷ []
 
 -- to tell changes no answer
 pub told-answer : (products quotients vanished : ℕ) (cell : Cell) → (if_going (told products quotients vanished) cell).answer ≡ cell.answer
@@ -47,7 +47,7 @@ HoldsC c (unsettled_at t) = ⊥
 module _ (z : State) (cell : Cell) (c y x : List Float) where
   -- its numbers, whatever its running number is
   pub tells : (v : Float) (f : Followed) → StandsAt z cell c y x f
-      → numbers_of_is (if_going (told z.products z.quotients z.vanished)
+      → numbers_of (if_going (told z.products z.quotients z.vanished)
       (record { running = v; answer = cell.answer; table = cell.table; target = cell.target; gone = cell.gone })) ≡ side_numbers (reply (followed f))
   unfolding followed reply
   tells v (through w) (goes, is) = rw (is, eq-eqb _ _ goes) (ap₂ (λ a g. a ∷ z.products ∷ z.quotients ∷ g ∷ []) goes (omega arith))

@@ -6,7 +6,7 @@ use mathlib.Core.List.{List}
 use borrow.Author.Tests.{eq-eqb, ne_eqb}
 use lib.ListN.{length, replicate}
 use Rattle.model.specs.Fill.{Plan}
-use Rattle.model.specs.Compile.{Labels, good, bad, Compiler, wanted, gap, gap_at_is, orderly, admits, numbers_by, work_with, work_left}
+use Rattle.model.specs.Compile.{Labels, good, bad, Compiler, wanted, gap, gap_at, orderly, admits, numbers_by, work_with, work_left}
 use Rattle.model.proofs.Compiles.{orderly-number, gap-high, gap_self}
 
 -- an answer, with what then stands in the work slice, which held work
@@ -25,15 +25,15 @@ module _ (c : Compiler) (N : ℕ) (L : Plan) (work : List ℕ) where
 
   module _ (orders : orderly (wanted c N) N L (length work) ≡ good) where
     -- 5 and 26 clear the work numbers
-    pub admits-gap : (gap_at_is c N L ≡ 0 → ⊥) → Admits c N L work (bad (gap c) (gap_at_is c N L)) (work_with c N (replicate (N * N) 0) work)
+    pub admits-gap : (gap_at c N L ≡ 0 → ⊥) → Admits c N L work (bad (gap c) (gap_at c N L)) (work_with c N (replicate (N * N) 0) work)
     unfolding admits work_left
     admits-gap some =
-        let answer : admits c N L (length work) ≡ bad (gap c) (gap_at_is c N L) = rw (admits, orders, ne_eqb (gap_at_is c N L) 0 some) in
+        let answer : admits c N L (length work) ≡ bad (gap c) (gap_at c N L) = rw (admits, orders, ne_eqb (gap_at c N L) 0 some) in
         record { answer_is = answer; work_is = rw (answer, work_left, gap_self c) }
 
     -- past them the slots or the positions stand there
-    pub admits-good : gap_at_is c N L ≡ 0 → Admits c N L work good (work_with c N (numbers_by c N L) work)
+    pub admits-good : gap_at c N L ≡ 0 → Admits c N L work good (work_with c N (numbers_by c N L) work)
     unfolding admits work_left
     admits-good none =
-        let answer : admits c N L (length work) ≡ good = rw (admits, orders, eq-eqb (gap_at_is c N L) 0 none) in
+        let answer : admits c N L (length work) ≡ good = rw (admits, orders, eq-eqb (gap_at c N L) 0 none) in
         record { answer_is = answer; work_is = rw (answer, work_left) }

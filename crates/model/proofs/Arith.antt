@@ -124,6 +124,10 @@ quotient_nought (nonzero {s} {m} {e} h) z =
 
 last_three : (a b c d : Bool) → T (a && b && c && d) → T b × T c × T d
 last_three true true true true t = (tt, tt, tt)
+last_three true true true false t = elim t [ ]
+last_three true true false d t = elim t [ ]
+last_three true false c d t = elim t [ ]
+last_three false b c d t = elim t [ ]
 
 pub bounds : (f : Format) (s : Bool) (m : ℕ) (e : ℤ) → T (fits f (fin s (suc m) e))
     → (suc m < 2 ^ prec f) × (down e ≤ 2 ^ low f) × (suc m * up e < 2 ^ suc (emax f) * down e)
@@ -148,6 +152,8 @@ same-value f (fin t n d) s m e p q v =
     div_same (n * up d * l) (down d) (m * up e * l) (down e) (down_pos d) (down_pos e) (omega (arith, ap (λ (x : ℕ). l * x) v.1)) in
     let bits : to_bits f (fin t n d) ≡ to_bits f (fin s m e) = cc in
     sym (of_bits-to_bits f (fin t n d) p) ∙ ap (of_bits f) bits ∙ of_bits-to_bits f (fin s m e) q
+same-value f nan s m e p q v = elim v [ ]
+same-value f (inf _) s m e p q v = elim v [ ]
 
 pub round-held : (f : Format) (s : Bool) (m : ℕ) (e : ℤ) → T (fits f (fin s (suc m) e)) → round f s (suc m * up e) (down e) ≡ fin s (suc m) e
 round-held f s m e h =

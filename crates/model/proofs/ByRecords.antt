@@ -4,7 +4,7 @@ use mathlib.Core.Path.{◌≡◌, refl, ap}
 use mathlib.Core.List.{List, [], ◌∷◌, map}
 use lib.Ieee.{Float}
 use Rattle.model.specs.Program.{Record}
-use Rattle.model.specs.Check.{Link, End, Progress, fine, kind_of, check_links}
+use Rattle.model.specs.Check.{Link, End, Progress, fine, kind_of, onward, check_links}
 use Rattle.model.specs.Run.{State, Stepped, going, stop, step, Followed, halted, follow, followed}
 use Rattle.model.specs.Agreement.{seen}
 use Rattle.model.proofs.Passing.{link-passed}
@@ -27,7 +27,8 @@ unfolding links_from
 check_by_records N n s g k [] e passes = passes
 check_by_records N n s g k (l ∷ ls) e passes =
     let p = link-passed N n s g (record { index = k; at = l.at }) (links_from (suc k) (records_on ls)) e passes in
-    rw (check-link N n s g l ls e, p.ten, p.eleven, p.twelve) (check_by_records N n s _ (suc k) ls e p.later)
+    rw (check-link N n s g l ls e, p.ten, p.eleven, p.twelve)
+    (check_by_records N n s (onward (kind_of l.at.kind) l.at.p l.at.q g) (suc k) ls e p.later)
 
 -- and its run ends as theirs does
 pub run_by_records : (A B : List Float) (limit : Float) (z : State) (k : ℕ) (ls : List Link)

@@ -13,7 +13,7 @@ use Rattle.model.specs.Program.{Record, rec, compiled_records}
 use Rattle.model.specs.Label.{within, is_order}
 use Rattle.model.specs.Fill.{Plan, slots, missing}
 use Rattle.model.specs.Check.{Kind, opens, subtracts, closes, closes_pivot, kind_of, is_sweep, formed, in_order, in_turn, whole, chain}
-use Rattle.model.specs.Compact.{open_after, needed, Renaming, renamed, after_record, unnamed, most_alive}
+use Rattle.model.specs.Compact.{open_after, needed, Renaming, renamed, after_opening, after_record, unnamed, most_alive}
 use Rattle.model.specs.Compact.{compacting, compact_slots, compact_records, compacted}
 use Rattle.model.specs.Agreement.{CompactLeast, CompactFine}
 use Rattle.model.proofs.Within.{within-range, range-within, both_true}
@@ -160,7 +160,7 @@ module _ (N n s S : ℕ) (crout : is_sweep S ≡ false) where
 renamed-length : (z : Renaming) (rs : List Record) → length (renamed z rs).records ≡ length rs
 unfolding renamed
 renamed-length z [] = refl
-renamed-length z (r ∷ rs) = ap suc (renamed-length _ rs)
+renamed-length z (r ∷ rs) = ap suc (renamed-length (after_record (after_opening (kind_of r.kind) z) r rs) rs)
 
 module _ (N : ℕ) (L : Plan) (order : is_order N ≡ true) (none : missing N L ≡ 0) where
   -- the invariant holds before the first record of the plain program, so what follows from it does

@@ -113,8 +113,9 @@ module _ (A B : List Float) (limit : Float) where
     run_products a [] p q g p' g' rs e h = ap₂ (λ n m. resumed f a (λ v. run (midway n q m v) rs)) (omega arith) (omega arith)
     run_products a (pq ∷ ps) p q g p' g' rs e h =
         let gone = g + cond (vanishes (entry t C pq.0) (entry t f.table pq.1)) 1 0 in
-        run_record a (λ v. less v (entry t C pq.0) (entry t f.table pq.1)) p q g _ _ (midway (suc p) q gone) (λ v. rw kind-subtracts)
-        ∙ run_products _ ps (suc p) q gone p' g' rs (omega arith) (omega (arith, vanished_in_cons t f.table pq ps))
+        let minus = λ (v : Float). less v (entry t C pq.0) (entry t f.table pq.1) in
+        run_record a minus p q g _ _ (midway (suc p) q gone) (λ v. rw kind-subtracts)
+        ∙ run_products (next a minus) ps (suc p) q gone p' g' rs (omega arith) (omega (arith, vanished_in_cons t f.table pq ps))
 
     run_division : (a : Answer) (d p q g q' : ℕ) (rs : List Record) → q + cond (ltb 0 d) 1 0 ≡ q'
         → resumed f a (λ v. run (midway p q g v) (cond (eqb d 0) [] (rec 7 d 0 ∷ []) ++ rs)) ≡ resumed f (over t d a) (λ v. run (midway p q' g v) rs)

@@ -200,7 +200,7 @@ follow_shared A b b' limit N n s g (l ∷ ls) end z w z' w' passes same e e' =
     let ok = link-passed N n s g l ls end passes in
     let (u, p, f) = first-through A b limit z z' l ls e in
     let (u', p', f') = first-through A b' limit w w' l ls e' in
-    follow_shared A b b' limit N n s _ ls end u u' z' w' ok.later
+    follow_shared A b b' limit N n s (onward (kind_of l.at.kind) l.at.p l.at.q g) ls end u u' z' w' ok.later
     (step_shared A b b' limit (kind_of l.at.kind) l.at.p l.at.q g z w u u' ok.eleven same p p') f f'
 
 -- ---- two runs that are solved
@@ -229,6 +229,9 @@ swept-none_in_c A B limit N ls =
     go (settled z k) so = refl
     go (unsettled z) so = tt
     go (ended (stopped r k t n)) so = tt
+    go (ended (solution _ _ _ _ _)) so = elim so [ ]
+    go (ended (refused_by _ _)) so = elim so [ ]
+    go (ended (unsettled_at _)) so = elim so [ ]
 
 -- a side that is solved got through
 pub followed-solved : (f : Followed) (t : Tables) (p q g k : ℕ) → followed f ≡ solution t p q g k → (z : State) × (f ≡ through z) × (z.tables ≡ t)
@@ -287,7 +290,7 @@ shares_c W A b b' limit c N t t' p p' q q' g g' k k' e e' =
         ap (λ u. u.c) (sym s) ∙ same ∙ ap (λ u. u.c) s'
 
 -- so what the call leaves in C is the C of any side that is solved
-pub shared_c_is : (W : List ℕ) (A : List Float) (limit : Float) (c N : ℕ) (vs : List Float) {bs : List (List Float)} {b : List Float} → Memᴰ b bs
+pub shared_c_is : (W : List ℕ) (A : List Float) (limit : Float) (c N : ℕ) (vs : List Float) {b : List Float} {bs : List (List Float)} → Memᴰ b bs
     → (t : Tables) (p q g k : ℕ) → ran W A b limit c N N ≡ solution t p q g k → shared_c (map (λ b. ran W A b limit c N N) bs) vs ≡ t.c
 unfolding shared_c
 shared_c_is W A limit c N vs (Memᴰ.head same) t p q g k e = rw (← same, e)

@@ -134,4 +134,4 @@ pub ends-whole : (N n s : ℕ) (g : Progress) (ls : List Link) (e : End) → che
 unfolding check_links
 ends-whole N n s g [] whole passes = refl
 ends-whole N n s g [] (broken k) passes = absurd (refused-fine 9 k passes)
-ends-whole N n s g (l ∷ ls) e passes = ends-whole N n s _ ls e (link-passed N n s g l ls e passes).later
+ends-whole N n s g (l ∷ ls) e passes = ends-whole N n s (onward (kind_of l.at.kind) l.at.p l.at.q g) ls e (link-passed N n s g l ls e passes).later

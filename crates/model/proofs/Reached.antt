@@ -173,6 +173,7 @@ module _ (A b : List Float) (limit : Float) (z : State) (k : ℕ) (seen : List L
 
       go : (f : Followed) → Halted f → HaltedAt UpTo f → read_by (seen ++ rest) (followed (advanced A b limit f rest)) ≤ length seen
       go (halted r i t n) refused at = rw advanced_halted at
+      go (through _) refused at = elim refused [ ]
 
   -- and one more, if it got through those seen and is refused at the next
   pub read_by_next : (l : Link) (rest : List Link) → Rising k (seen ++ l ∷ rest) → (w : State) → advanced A b limit (through z) seen ≡ through w
@@ -184,6 +185,7 @@ module _ (A b : List Float) (limit : Float) (z : State) (k : ℕ) (seen : List L
     where
       go : (s : Stepped) → Halted (stepped l w s) → read_by (seen ++ l ∷ rest) (followed (advanced A b limit (stepped l w s) rest)) ≡ suc (length seen)
       go (stop r) refused = rw advanced_halted (up_to_next k seen l rest up)
+      go (going _) refused = elim refused [ ]
 
 -- ---- the records that the call reads
 

@@ -128,7 +128,8 @@ module _ (N n s : ℕ) (crout : is_sweep s ≡ false) where
   reaches g [] (broken k) passes = absurd (refused-fine _ _ passes)
   reaches g (l ∷ ls) e passes =
       let p = link-passed N n s g l ls e passes in
-      omega (arith, reaches _ ls e p.later, onward_top (kind_of l.at.kind) l.at.p l.at.q g p.eleven (crout_turn _ _ _ g p.twelve))
+      let rest = reaches (onward (kind_of l.at.kind) l.at.p l.at.q g) ls e p.later in
+      omega (arith, rest, onward_top (kind_of l.at.kind) l.at.p l.at.q g p.eleven (crout_turn _ _ _ g p.twelve))
 
   -- where no more openings than slots are left, m of them after this record, C opens in turn as release 1 asks
   turn_then : (k : R.Kind) (p q : ℕ) (g : R.Progress) (m : ℕ) → in_order (kind_now k) (progress_now N g).target ≡ true

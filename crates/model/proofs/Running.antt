@@ -14,7 +14,7 @@ use Rattle.model.specs.Sweep.{Once, swept, ends, Sweeps, settled, unsettled, end
 use Rattle.model.specs.Check.{Link, word, record_at, next_of, Chain, chain, Progress, begun, fine, refusal, kind_of}
 use Rattle.model.specs.Check.{is_sweep, belongs, in_order, allowed, onward, complete, check_links}
 use Rattle.model.specs.Run.{State, Stepped, going, stop, step, Followed, through, halted, follow, followed, started_on, fresh}
-use Rattle.model.specs.Run.{Outcome, solution, stopped, refused_by, unsettled_at, once_more_is, only_x, swept_over}
+use Rattle.model.specs.Run.{Outcome, solution, stopped, refused_by, unsettled_at, once_more, only_x, swept_over}
 use Rattle.model.proofs.Following.{follows, chain_from, chain-from, chain-ends, chain_breaks, chain_goes}
 use Rattle.model.proofs.Runs.{done_by}
 use Rattle.model.proofs.Passing.{both, refused-fine, next-range, Passed, link-passed, end-passed}
@@ -206,7 +206,7 @@ SweptSo (ended e) = Stops e
 
 module _ (A B : List Float) (limit : Float) (N : ℕ) (ls : List Link) where
   abbrev pub once_from : State → Once State Outcome
-  once_from z = once_more_is (follow A B limit z ls)
+  once_from z = once_more (follow A B limit z ls)
 
   abbrev pub moves_from : State → State → Bool
   moves_from z w = moved limit N z.tables.x w.tables.x
@@ -222,7 +222,7 @@ module _ (A B : List Float) (limit : Float) (N : ℕ) (ls : List Link) where
       after w false rest = tt
 
       by : (f : Followed) → ((w : State) → SweptSo (sweeping once_from moves_from d (suc k) w))
-          → SweptSo (elim (once_more_is f) as (λ o. Sweeps State Outcome) [
+          → SweptSo (elim (once_more f) as (λ o. Sweeps State Outcome) [
             | ends e ↦ ended e
             | swept w ↦ elim (moves_from z w) as (λ b. Sweeps State Outcome) [ true ↦ sweeping once_from moves_from d (suc k) w | false ↦ settled w (suc k) ]
           ])
@@ -251,3 +251,6 @@ done_not_refused W A B limit true =
     by (settled z k) so = tt
     by (unsettled z) so = tt
     by (ended (stopped r k t n)) so = tt
+    by (ended (solution _ _ _ _ _)) so = elim so [ ]
+    by (ended (refused_by _ _)) so = elim so [ ]
+    by (ended (unsettled_at _)) so = elim so [ ]

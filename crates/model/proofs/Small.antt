@@ -21,10 +21,10 @@ use Rattle.model.specs.Formula.{C, Y, X, entry, less}
 use Rattle.model.specs.Sweep.{bare_from, bare, Once, swept, ends, Sweeps, settled, unsettled, ended, sweeping, moved, most_sweeps, loaded}
 use Rattle.model.specs.Run.{State, Outcome, solution, refused_by, unsettled_at, started_on, fresh, Stepped, going, stop}
 use Rattle.model.specs.Run.{closing, subtracted, divided_by, settled_step, step, Followed, through, halted, follow, followed}
-use Rattle.model.specs.Run.{once_more_is, only_x, swept_over, not_finite, check_values, ran, Reply, solves, stops, refuses, reply}
+use Rattle.model.specs.Run.{once_more, only_x, swept_over, not_finite, check_values, ran, Reply, solves, stops, refuses, reply}
 use Rattle.model.specs.Many.{sides, none_run, ran_many, verdict}
 use Rattle.model.specs.Compile as Compile
-use Rattle.model.specs.Compile.{Compiled, written, Labels, good, bad, judged, Compiler, plain, compact, sweep, wanted, gap, gap_at_is}
+use Rattle.model.specs.Compile.{Compiled, written, Labels, good, bad, judged, Compiler, plain, compact, sweep, wanted, gap, gap_at}
 use Rattle.model.specs.Compile.{slots_by, products_by, records_by, orderly, admits, compiles_by, compiles}
 use Rattle.model.specs.Program.{Record, compiled_records, compiled}
 use Rattle.model.specs.Compare.{same_record, compared, compares}
@@ -229,7 +229,7 @@ wanted_small plain N n = omega (arith, mul-le-mul {n₂ = 600} {m₂ = 600} n n)
 wanted_small compact N n = omega (arith, mul-le-mul {n₂ = 600} {m₂ = 600} n n)
 wanted_small sweep N n = omega (arith, mul-le-mul {n₂ = 600} {m₂ = 600} n n)
 
-gap_small : (c : Compiler) (N : ℕ) (L : Plan) → N ≤ 600 → eqb (gap_at_is c N L) 0 ≡ false → Small 100000000 (gap c) (gap_at_is c N L)
+gap_small : (c : Compiler) (N : ℕ) (L : Plan) → N ≤ 600 → eqb (gap_at c N L) 0 ≡ false → Small 100000000 (gap c) (gap_at c N L)
 unfolding bare
 gap_small plain N L n v = omega (arith, (missing-free N L (eqb-false (missing N L) 0 v)).high)
 gap_small compact N L n v = omega (arith, (missing-free N L (eqb-false (missing N L) 0 v)).high)
@@ -244,14 +244,14 @@ pub compiles_small : (c : Compiler) (N : ℕ) (L : Plan) (work words : ℕ) → 
 unfolding ordered_by admitted_by answered_by
 compiles_small c N L work words =
     rw (compiles_is c N L work words)
-    (step (is_order N) (leb (wanted c N) work) (judged N 0 1 L) (eqb (gap_at_is c N L) 0) (leb (4 * records_by c N L) words) refl refl refl)
+    (step (is_order N) (leb (wanted c N) work) (judged N 0 1 L) (eqb (gap_at c N L) 0) (leb (4 * records_by c N L) words) refl refl refl)
   where
     done : Compiled
     done = written (slots_by c N L) (products_by c N L) (records_by c N L)
 
-    step : (order room : Bool) (labels : Labels) (complete fits : Bool) → is_order N ≡ order → judged N 0 1 L ≡ labels → eqb (gap_at_is c N L) 0 ≡ complete
+    step : (order room : Bool) (labels : Labels) (complete fits : Bool) → is_order N ≡ order → judged N 0 1 L ≡ labels → eqb (gap_at c N L) 0 ≡ complete
         → SmallCompiled (100000000 + length L)
-        (answered_by (admitted_by (ordered_by order room labels (wanted c N)) complete (gap c) (gap_at_is c N L)) fits (records_by c N L) done)
+        (answered_by (admitted_by (ordered_by order room labels (wanted c N)) complete (gap c) (gap_at c N L)) fits (records_by c N L) done)
     step false room labels complete fits o j v = omega arith
     step true false labels complete fits o j v = omega (arith, wanted_small c N (within-range N 600 o).1)
     step true true (bad r d) complete fits o j v = omega (arith, judged_small N 0 1 L r d j)
@@ -434,7 +434,7 @@ SmallSweeps b (settled z k) = Unit {0}
 SmallSweeps b (unsettled z) = Unit {0}
 SmallSweeps b (ended o) = SmallReply b (reply o)
 
-once_small : (b : ℕ) (f : Followed) → SmallFollowed b f → SmallOnce b (once_more_is f)
+once_small : (b : ℕ) (f : Followed) → SmallFollowed b f → SmallOnce b (once_more f)
 unfolding reply
 once_small b (through z) h = tt
 once_small b (halted r index t k) h = h
@@ -465,7 +465,7 @@ swept_small b A B limit N ls up =
     (started_on (loaded N (map clean A) B)))
   where
     once : State → Once State Outcome
-    once z = once_more_is (follow A B limit z ls)
+    once z = once_more (follow A B limit z ls)
 
     moves : State → State → Bool
     moves z w = moved limit N z.tables.x w.tables.x

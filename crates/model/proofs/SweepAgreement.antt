@@ -18,7 +18,7 @@ use Rattle.model.specs.Sweep.{moved, most_sweeps, loaded, Once, swept, ends, Swe
 use Rattle.model.specs.Sweep.{Swept, Settled, settles, refused_at, unsettles, full_table, dense_once, dense_sweep}
 use Rattle.model.specs.Check.{kind_of, chain}
 use Rattle.model.specs.Run.{State, Stepped, going, stop, step, Followed, through, halted, follow, followed}
-use Rattle.model.specs.Run.{Outcome, solution, unsettled_at, started_on, once_more_is, only_x, swept_over, ran}
+use Rattle.model.specs.Run.{Outcome, solution, unsettled_at, started_on, once_more, only_x, swept_over, ran}
 use Rattle.model.specs.Agreement as Agreement
 use Rattle.model.specs.Agreement.{Given, late, seen, on_x, swept_as, SweepAgrees}
 use Rattle.model.proofs.Lists.{Each, rising-each}
@@ -105,19 +105,21 @@ module _ {N : ℕ} {L : Plan} {A B : List Float} {limit : Float} (given : Given 
   SameRefusal o e = seen o ≡ Agreement.ended e.0 X e.1
 
   abbrev run_once : State → Once State Outcome
-  run_once z = once_more_is (follow A B limit z (links_from 1 (sweep_records N L)))
+  run_once z = once_more (follow A B limit z (links_from 1 (sweep_records N L)))
 
   abbrev dense_ends : Ended → Once Swept (ℕ × ℕ)
   dense_ends e = elim e [ solved t g ↦ swept (record { tables = t; vanished = g }) | refused r t k ↦ ends (r, k) ]
 
   -- what is seen of a sweep's run says what it leads to
   once-seen : (k : ℕ) (f : Followed) (e d : Ended) → seen (followed f) ≡ shown (suc k * (length L - N)) (suc k * N) e → SameEnding N L A B limit e d
-      → OnceAlike Level SameRefusal (suc k) (once_more_is f) (dense_ends d)
+      → OnceAlike Level SameRefusal (suc k) (once_more f) (dense_ends d)
   unfolding seen followed shown
   once-seen k (through z) (solved u g) (solved t h) q (same, count, dense) = record { tables = cc; products = cc; quotients = cc; vanished = cc; dense = dense }
   once-seen k (halted r i tb m) (refused s ub l) (refused s' ub' l') q (number, table, target) = cc
   once-seen k (through z) (refused s ub l) (refused s' ub' l') q b = let z : ◌≡◌ {A = ℕ} 0 1 = cc in absurd (omega arith)
   once-seen k (halted r i tb m) (solved u g) (solved t h) q b = let z : ◌≡◌ {A = ℕ} 0 1 = cc in absurd (omega arith)
+  once-seen k f (solved u g) (refused s ub l) q b = elim b [ ]
+  once-seen k f (refused s ub l) (solved t h) q b = elim b [ ]
 
   -- one sweep of the run leads where a dense one does
   once_alike : (k : ℕ) (z : State) (s : Swept) → Level k z s → OnceAlike Level SameRefusal (suc k) (run_once z) (dense_once N A B limit s)
@@ -189,6 +191,12 @@ module _ {N : ℕ} {L : Plan} {A B : List Float} {limit : Float} (given : Given 
   ending_alike (settled z j) (settled s k) (e, level) = rw (e, same-x level, level.products, level.quotients, level.vanished)
   ending_alike (unsettled z) (unsettled s) (k, level) = ap late (same-x level)
   ending_alike (ended o) (ended e) q = q
+  ending_alike (settled z j) (unsettled s) q = elim q [ ]
+  ending_alike (settled z j) (ended e) q = elim q [ ]
+  ending_alike (unsettled z) (settled s k) q = elim q [ ]
+  ending_alike (unsettled z) (ended e) q = elim q [ ]
+  ending_alike (ended o) (settled s k) q = elim q [ ]
+  ending_alike (ended o) (unsettled s) q = elim q [ ]
 
   swept_alike : seen (swept_over A B limit N (links_from 1 (sweep_records N L))) ≡ swept_as N L (dense_sweep N L A B limit)
   unfolding swept_over dense_sweep

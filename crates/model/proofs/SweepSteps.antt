@@ -165,6 +165,12 @@ module _ (A B : List Float) (limit : Float) (N n : ℕ) (olds : List Float) (z :
   kind-after idle c y x (subtracts X) of eleven twelve within = absurd (false≢true eleven)
   kind-after idle c y x divides of eleven twelve within = absurd (false≢true eleven)
   kind-after idle c y x closes of eleven twelve within = absurd (false≢true eleven)
+  kind-after o c y x (opens C) of eleven twelve within = elim of [ ]
+  kind-after o c y x (opens Y) of eleven twelve within = elim of [ ]
+  kind-after o c y x (subtracts C) of eleven twelve within = elim of [ ]
+  kind-after o c y x (subtracts Y) of eleven twelve within = elim of [ ]
+  kind-after o c y x closes_pivot of eleven twelve within = elim of [ ]
+  kind-after o c y x none of eleven twelve within = elim of [ ]
 
   -- a record of a sweep that passes 11 and 12 leads to a state within it
   pub sweep_after : (g : Progress) (k : Kind) → OfSweep k → in_order k g.target ≡ true → in_row N n k p q g ≡ true → Within N n limit olds g z moves

@@ -19,7 +19,7 @@ use Rattle.model.specs.Sweep.{row_formula, full_table}
 use Rattle.model.proofs.Lists.{Each, rising-each, kept_where}
 use Rattle.model.proofs.Labels.{Inside, label-range, places-length, place_of_label}
 use Rattle.model.proofs.Arith.{Good, GoodAnswer}
-use Rattle.model.proofs.Picked.{get_d_map}
+use Rattle.model.proofs.Picked.{get_or_map}
 use Rattle.model.proofs.SweepCounts.{position_at, is_planned, planned_row}
 use Rattle.model.proofs.Values.{AllGood, put_x-good, value-good, Trivial, trivial_left, Alike, same, dropped}
 use Rattle.model.proofs.Values.{less_all-same, vanished-same, over-at}
@@ -66,13 +66,13 @@ module _ {N : ℕ} {L : Plan} {A : List Float} {t : Tables} (dense : Dense N L A
   dense-entry : (i j : ℕ) → Inside N i j → entry t C (label N i j) ≡ coefficient A (position_at N L i j)
   unfolding entry full_table place
   dense-entry i j inside = ap (λ c. get_or c (label N i j - 1) plus_zero) dense.table_is
-      ∙ get_d_map _ (places N) (label N i j - 1) (0, 0) plus_zero (omega (arith, places-length N, label-range N i j inside))
+      ∙ get_or_map _ (places N) (label N i j - 1) (0, 0) plus_zero (omega (arith, places-length N, label-range N i j inside))
       ∙ ap (λ p. coefficient A (position_at N L p.0 p.1)) (place_of_label N i j inside)
 
   -- a coefficient of the plan stands at its position
   sparse_entry : (k : ℕ) → 1 ≤ k → entry (sparse A t) C k ≡ coefficient A k
   unfolding entry sparse clean
-  sparse_entry k h = rw (ne_eqb k 0 (λ e. omega arith)) (ListN.get_d_map clean A (k - 1) plus_zero)
+  sparse_entry k h = rw (ne_eqb k 0 (λ e. omega arith)) (ListN.get_or-map clean A (k - 1) plus_zero)
 
   -- so a place of the plan has the same entry on both sides
   planned-entry : (i j : ℕ) → Inside N i j → 1 ≤ position_at N L i j → entry (sparse A t) C (position_at N L i j) ≡ entry t C (label N i j)

@@ -44,3 +44,5 @@ module _ {S E S' E' : Type 0} (R : ℕ → S → S' → Type 0) (Q : E → E' �
             → SweepsAlike (sweeping once moves (suc d) k z) (sweeping once' moves' (suc d) k w)
         by (swept u) e (swept v) f q rest = rw (sweeping, e, sweeping, f, same k z u w v r q) (after u v q (moves' w v) (rest u v q))
         by (ends x) e (ends y) f q rest = rw (sweeping, e, sweeping, f) q
+        by (swept u) e (ends y) f q rest = elim q [ ]
+        by (ends x) e (swept v) f q rest = elim q [ ]

@@ -100,7 +100,9 @@ less-good acc a b = next-good (product a b) (λ p. difference acc p) (difference
 less_all-good : (t : Tables) (tb : Table) (a : Answer) (ps : List (ℕ × ℕ)) → GoodAnswer a → GoodAnswer (less_all t tb a ps)
 unfolding less_all
 less_all-good t tb a [] g = g
-less_all-good t tb a (pq ∷ ps) g = less_all-good t tb _ ps (next-good a _ (λ v. less-good v (entry t C pq.0) (entry t tb pq.1)))
+less_all-good t tb a (pq ∷ ps) g =
+    let minus = λ (v : Float). less v (entry t C pq.0) (entry t tb pq.1) in
+    less_all-good t tb (next a minus) ps (next-good a minus (λ v. less-good v (entry t C pq.0) (entry t tb pq.1)))
 
 over-good : (t : Tables) (d : ℕ) (a : Answer) → GoodAnswer a → GoodAnswer (over t d a)
 unfolding over

@@ -120,16 +120,16 @@ followed (halted r index t k) = stopped r index t k
 
 -- A program with s = 0: along its chain again and again, on tables where A stands in C's place and B in Y's, as they are read (A.7). C and Y have no
 -- entry at the end.
-abbrev pub once_more_is : Followed → Once State Outcome
-once_more_is (through z) = swept z
-once_more_is (halted r index t k) = ends (stopped r index t k)
+abbrev pub once_more : Followed → Once State Outcome
+once_more (through z) = swept z
+once_more (halted r index t k) = ends (stopped r index t k)
 
 abbrev pub only_x : Tables → Tables
 only_x t = record { order = t.order; c = []; y = []; x = t.x }
 
 unfoldable pub swept_over : List Float → List Float → Float → ℕ → List Link → Outcome
 swept_over A B limit N ls =
-    let once : State → Once State Outcome = λ z. once_more_is (follow A B limit z ls) in
+    let once : State → Once State Outcome = λ z. once_more (follow A B limit z ls) in
     elim (sweeping once (λ z w. moved limit N z.tables.x w.tables.x) most_sweeps 0 (started_on (loaded N (map clean A) B))) [
       | settled z k ↦ solution (only_x z.tables) z.products z.quotients z.vanished k
       | unsettled z ↦ unsettled_at (only_x z.tables)

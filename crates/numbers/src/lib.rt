@@ -1,4 +1,5 @@
 // Small functions on numbers, for all crates above.
+#![tactic(auto)]
 ghost use Rattle.std.specs.Prelude.{◌≡◌, min, max};
 ghost use Rattle.model.specs.Label;
 

@@ -1,4 +1,5 @@
 // A better numbering of rows and columns, by exchanges of neighbours that leave fewer slots. Document 02, A.12.
+#![tactic(auto)]
 ghost use Rattle.std.specs.Prelude.{◌≡◌, true, cond, suc, ◌*◌, ◌≤◌, ◌<◌, ltb, length, drop};
 ghost use Rattle.model.specs.Label.{is_order};
 ghost use Rattle.model.specs.Compile.{judged, good, orderly};
@@ -16,7 +17,7 @@ use plans::Judged;
 use slots::Filled;
 
 // The slots of the numbering that is returned, the trials made and the distance; or a refusal and its detail.
-#[derive(Drop)]
+#[derive(Clone, Copy)]
 pub enum Ordered {
     Numbered {
         slots: u32,

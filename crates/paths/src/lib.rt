@@ -1,4 +1,5 @@
 // Why a place is held: a path through places of the plan. Document 02, A.2.
+#![tactic(auto)]
 ghost use Rattle.std.specs.Prelude.{◌≡◌, ◌&&◌, ◌-◌, ◌*◌, ◌≤◌, ◌<◌, ltb, length, get_or};
 ghost use Rattle.model.specs.Label.{is_place};
 ghost use Rattle.model.specs.Label;
@@ -12,7 +13,7 @@ use numbers::wide;
 use plans::Judged;
 
 // The number of a path's entries, or a refusal and its detail.
-#[derive(Drop)]
+#[derive(Clone, Copy)]
 pub enum Traced {
     Found { entries: u32 },
     Refused { number: u32, detail: u64 },
@@ -20,7 +21,7 @@ pub enum Traced {
 
 // How far a path is written: its last entry, the number of its entries, and where in the stack those that it still has to reach begin, the
 // nearest first.
-#[derive(Drop)]
+#[derive(Clone, Copy)]
 pub struct Trail {
     pub last: u32,
     pub count: usize,

@@ -1,4 +1,5 @@
 // A plan's checks 1 to 5 and its slots, for every call that takes a plan: document 01, "Fill and slots" and "Where each refusal is checked".
+#![tactic(auto)]
 ghost use Rattle.std.specs.Prelude.{◌≡◌, ◌*◌, ◌≤◌, length, replicate, true};
 ghost use Rattle.model.specs.Label.{is_order};
 ghost use Rattle.model.specs.Compile.{judged, good, orderly};
@@ -13,7 +14,7 @@ use numbers::{larger, wide, within};
 use slots::Filled;
 
 // No check refuses the plan, or the number of the one that does and its detail.
-#[derive(Drop)]
+#[derive(Clone, Copy)]
 pub enum Judged {
     Good,
     Bad { number: u32, detail: u64 },

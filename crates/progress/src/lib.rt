@@ -1,4 +1,5 @@
 // The progress of a check, and one record against 10 to 12: document 01, "Where each refusal is checked"; document 02, A.7 and A.11.
+#![tactic(auto)]
 ghost use Rattle.std.specs.Prelude.{◌≡◌, ◌&&◌, ◌≤◌, ◌<◌, eqb};
 ghost use Rattle.model.specs.Label;
 ghost use Rattle.model.specs.Formula.{C, Y, X};
@@ -9,7 +10,7 @@ ghost use Rattle.progress.specs.Steps.{open_of, open_number, progress_of, total,
 use numbers::{larger, within};
 
 // Record 0: N, n and s.
-#[derive(Drop)]
+#[derive(Clone, Copy)]
 pub struct Head {
     pub order: u32,
     pub coefficients: u32,
@@ -17,7 +18,7 @@ pub struct Head {
 }
 
 // What is open.
-#[derive(Drop)]
+#[derive(Clone, Copy)]
 pub enum Target {
     Nothing,
     C,
@@ -27,7 +28,7 @@ pub enum Target {
 
 // What is open and its number, and how many entries of C, Y and X are closed; of C those are always 1 up to the highest closed
 // (document 02, A.11).
-#[derive(Drop)]
+#[derive(Clone, Copy)]
 pub struct Progress {
     pub target: Target,
     pub number: u32,

@@ -20,7 +20,7 @@ use Rattle.model.specs.Many.{part}
 use Rattle.model.specs.Residual.{exact, less_row, residual}
 use Rattle.model.proofs.Parts.{part_length, with_part, with_length, with_same, with_others}
 use Rattle.model.proofs.Sides.{finite_cons}
-use Rattle.model.proofs.WorkNumbers.{get_d_any}
+use Rattle.model.proofs.WorkNumbers.{get_or_any}
 use Rattle.model.proofs.Rows.{Held, HeldRows, less_one, less_more, row_back}
 use Rattle.residual.specs.Subtracted.{Finite, start_of}
 
@@ -43,7 +43,7 @@ module _ {N : ℕ} {z : ℕ → ℤ} {words : List ℕ} (rows : HeldRows N z wor
   label-taken X k column index a back at e there held = rw whole (rows_same same (row_back rows r back _ below held))
     where
       same : (i : ℕ) → cond (eqb (suc r) i) (z (suc r) -ℤ exact a *ℤ exact (get_or X index nan)) (z i) ≡ less_one N X i (z i) k a
-      same i = rw (at, sym e, sym (get_d_any X index nan plus_zero there)) (step (eqb (suc r) i) refl)
+      same i = rw (at, sym e, sym (get_or_any X index nan plus_zero there)) (step (eqb (suc r) i) refl)
         where
           step : (b : Bool) → eqb (suc r) i ≡ b
               → cond b (z (suc r) -ℤ exact a *ℤ exact (get_or X index nan)) (z i) ≡ cond b (z i -ℤ exact a *ℤ exact (get_or X index nan)) (z i)
@@ -71,7 +71,7 @@ module _ {B : List Float} {r : ℕ} {words : List ℕ} (s : Started B r words) w
       step i (inr last) =
           let here : i ≡ r = omega arith in
           let index : suc r - 1 ≡ r = omega arith in
-          rw (here, index, sym (get_d_any B r nan plus_zero below), with_same 66 r words back (omega (arith, s.long)) held.size) held
+          rw (here, index, sym (get_or_any B r nan plus_zero below), with_same 66 r words back (omega (arith, s.long)) held.size) held
 
   pub started_all : length B ≤ r → HeldRows (length B) (start_of B) words
   started_all done = record { long = s.long; each = λ i l. s.each i (omega arith) }
@@ -91,7 +91,7 @@ less-start {N} L A B X h = rows_same (λ r. sym (less_none N X r (start_of B r))
 
 pub less-onward : {N : ℕ} {words : List ℕ} (L : Plan) (A B X : List Float) (k : ℕ) → length A ≡ length L → k < length L
     → HeldRows N (λ r. less_one N X r (less_up_to N L A B X k r) (get_or L k 0) (get_or A k nan)) words → HeldRows N (less_up_to N L A B X (suc k)) words
-less-onward {N} L A B X k e h rows = rows_same (λ r. sym (less_more N X r (start_of B r) L A k e h ∙ ap (less_one N X r (less_up_to N L A B X k r) (get_or L k 0)) (get_d_any A k plus_zero nan (omega arith)))) rows
+less-onward {N} L A B X k e h rows = rows_same (λ r. sym (less_more N X r (start_of B r) L A k e h ∙ ap (less_one N X r (less_up_to N L A B X k r) (get_or L k 0)) (get_or_any A k plus_zero nan (omega arith)))) rows
 
 pub less-end : {N : ℕ} {words : List ℕ} (L : Plan) (A B X : List Float) (k : ℕ) → length A ≡ length L → length L ≤ k
     → HeldRows N (less_up_to N L A B X k) words → HeldRows N (residual N L A B X) words

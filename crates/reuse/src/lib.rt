@@ -1,4 +1,5 @@
 // Slots given to the places of a plan, and given again: document 02, A.11. The places are walked in dense order; no record is looked at.
+#![tactic(auto)]
 ghost use Rattle.std.specs.Prelude.{◌≡◌, cond, ◌∷◌, ℕ, suc, ◌+◌, ◌-◌, ◌*◌, ◌≤◌, ◌<◌, max, length, get_or, drop};
 ghost use Rattle.model.specs.Fill.{Plan};
 ghost use Rattle.model.proofs.Labels.{Inside};
@@ -8,7 +9,7 @@ use numbers::{larger, wide};
 use slots::lines::zeros;
 
 // How far the places are walked, where the free slots begin, the one freed last first, and how many slots there are of all.
-#[derive(Drop)]
+#[derive(Clone, Copy)]
 pub struct Walk {
     pub done: u32,
     pub top: usize,

@@ -13,7 +13,7 @@ use Rattle.model.specs.Formula.{C, Y, X}
 use Rattle.model.specs.Sweep.{Once, swept, ends, Sweeps, settled, unsettled, ended, sweeping, moved, loaded}
 use Rattle.model.specs.Check.{word, chain, is_sweep}
 use Rattle.model.specs.Run as Run
-use Rattle.model.specs.Run.{Outcome, solution, unsettled_at, solves, stops, refuses, reply, started_on, once_more_is, only_x, swept_over}
+use Rattle.model.specs.Run.{Outcome, solution, unsettled_at, solves, stops, refuses, reply, started_on, once_more, only_x, swept_over}
 use Rattle.model.proofs.Runs.{done_by}
 use Rattle.state.specs.declared.State.{State}
 use Rattle.state.specs.States.{whole, unmoved}
@@ -31,7 +31,7 @@ none_left (v ∷ vs) e = absurd (omega arith)
 module _ (W : List ℕ) (A B : List Float) (limit : Float) where
   -- one sweep of the model, its moves, and how the sweeps end
   abbrev once_from : Run.State → Once Run.State Outcome
-  once_from z = once_more_is (Run.follow A B limit z (chain W).links)
+  once_from z = once_more (Run.follow A B limit z (chain W).links)
 
   abbrev moves : Run.State → Run.State → Bool
   moves z w = moved limit (word W 0) z.tables.x w.tables.x
@@ -122,7 +122,7 @@ module _ {W : List ℕ} {A B : List Float} {limit : Float} where
 
       -- the end by the next sweep
       next : Run.Followed → Sweeps Run.State Outcome
-      next f = elim (once_more_is f) as (λ o. Sweeps Run.State Outcome) [
+      next f = elim (once_more f) as (λ o. Sweeps Run.State Outcome) [
         | ends e ↦ ended e
         | swept w ↦ elim (moves W A B limit (holding true A B c y x z) w) as (λ b. Sweeps Run.State Outcome) [
           | true ↦ sweeps_from W A B limit (300 - suc k) (suc k) w

@@ -1,4 +1,5 @@
 // A checked program on values: document 01, "Running", and 14 to 17; document 02, A.1, A.5, A.7 and A.11.
+#![tactic(auto)]
 ghost use Rattle.std.specs.Prelude.{◌≡◌, true, false, ◌<◌, length, replicate};
 ghost use Rattle.model.specs.Arith.{plus_zero};
 ghost use Rattle.model.specs.Formula.{C, Y, X};
@@ -16,7 +17,7 @@ use state::{State, Stepped};
 
 // How a run ends: solved, with the products and quotients made, the products that vanished and the sweeps, 0 for Crout; stopped at a record,
 // by 16 or 17, with the table (1 for C, 2 Y, 3 X) and the number of the open target; or refused, by 7 to 15, by 21 or by 27.
-#[derive(Drop)]
+#[derive(Clone, Copy)]
 pub enum Outcome {
     Solved {
         products: u64,
@@ -37,7 +38,7 @@ pub enum Outcome {
 }
 
 // Where the records of a chain lead: past the last, or to the first refusal, with its record, and the table and number of the open target.
-#[derive(Drop)]
+#[derive(Clone, Copy)]
 enum Followed {
     Through(State),
     Halted {

@@ -8,7 +8,7 @@ ghost use Rattle.sides.specs.Cells.{if_going, ended_by, subtracted, divided, One
 use arith::Operation;
 
 // Where a refusal stands: its record, and the table and number of the open target.
-#[derive(Drop)]
+#[derive(Clone, Copy)]
 pub struct At {
     pub record: u32,
     pub table: u32,

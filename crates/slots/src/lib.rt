@@ -1,4 +1,5 @@
 // The slot pass: a plan's labels marked in the work numbers, and these marks turned into slots in place. Document 01, "Fill and slots".
+#![tactic(auto)]
 pub mod lines;
 
 ghost use Rattle.std.specs.Prelude.{◌≡◌, true, cond, ◌&&◌, ◌++◌, suc, ◌+◌, ◌-◌, ◌*◌, ◌≤◌, ◌<◌, min, max, ltb, eqb, length, get_or, set, drop, replicate};
@@ -14,14 +15,14 @@ use lines::{column_of, first_of, row_of};
 use numbers::{larger, wide};
 
 // How far the places are walked: those done, and the slots given.
-#[derive(Drop)]
+#[derive(Clone, Copy)]
 pub struct Walk {
     pub done: u32,
     pub used: u32,
 }
 
 // The slots, the products, the held places above the diagonal, and the first pivot that is missing, 0 if none is.
-#[derive(Drop)]
+#[derive(Clone, Copy)]
 pub struct Filled {
     pub slots: u32,
     pub products: u32,

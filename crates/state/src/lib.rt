@@ -1,4 +1,5 @@
 // The state of a run, and one record on it: document 01, "Running"; document 02, A.1, A.5, A.6, A.7 and A.11.
+#![tactic(auto)]
 ghost use Rattle.std.specs.Prelude.{◌≡◌, cond, [], map, ◌-◌, ◌≤◌, ◌<◌, eqb, length, get_or, set};
 ghost use Rattle.model.specs.Arith.{plus_zero, clean, quotient, vanishes};
 ghost use Rattle.model.specs.Formula.{less};
@@ -13,7 +14,7 @@ use numbers::wide;
 
 // The running number, the table and number of its target, how many entries of C, Y and X are closed (of C those from 1 up to the highest
 // closed), the products and quotients made, how many of the products vanished, and whether a row of this sweep moved by more than the limit.
-#[derive(Drop)]
+#[derive(Clone, Copy)]
 pub struct State {
     pub running: f64,
     pub table: u32,
@@ -28,7 +29,7 @@ pub struct State {
 }
 
 // What a record leads to: the state after it, or the number of its refusal.
-#[derive(Drop)]
+#[derive(Clone, Copy)]
 pub enum Stepped {
     On(State),
     Stop(u32),

@@ -1,4 +1,5 @@
 // A row of 64-bit words, low word first, as one number: adding to it and subtracting from it with carry. Document 02, A.4.
+#![tactic(auto)]
 ghost use Rattle.std.specs.Prelude.{◌≡◌, ◌+◌, ◌*◌, ◌^◌, ◌<◌, ◌≤◌, length};
 ghost use Rattle.model.specs.Residual.{joined64};
 ghost use Rattle.sums.specs.Added.{Changed, Carrying, three_at};
@@ -7,7 +8,7 @@ ghost use Rattle.sums.specs.Added;
 use digits::Wide;
 
 // A word after a change, and what is carried on to the next, 1 or 0.
-#[derive(Drop)]
+#[derive(Clone, Copy)]
 struct Carried {
     word: u64,
     carry: u64,

@@ -1,4 +1,5 @@
 // What the listing program reads, without the reading itself: bytes to numbers. Document 01, "Listing program".
+#![tactic(auto)]
 ghost use Rattle.std.specs.Prelude.{◌≡◌, true, List, ℕ, ◌-◌, ◌≤◌, length, take};
 ghost use Rattle.model.specs.Text.{fed, joining};
 ghost use Rattle.model.specs.Text as Text;
@@ -7,7 +8,7 @@ ghost use Rattle.text.specs.Readings.{stage_of, text_of, scanned_of, is_faulty, 
 use numbers::shorter;
 
 // Where reading stands: between numbers; in one, with the position of its first digit and its value so far; or at the first fault.
-#[derive(Drop)]
+#[derive(Clone, Copy)]
 pub enum Stage {
     Between,
     Within { start: u64, value: u32 },
@@ -15,7 +16,7 @@ pub enum Stage {
 }
 
 // The position of the next byte, how many numbers have ended, and the stage. The numbers stand in the slice lent with each call.
-#[derive(Drop)]
+#[derive(Clone, Copy)]
 pub struct Reading {
     position: u64,
     count: usize,
@@ -23,7 +24,7 @@ pub struct Reading {
 }
 
 // What the input says: N, which is the first number, and how many labels follow it; or the position of the first fault.
-#[derive(Drop)]
+#[derive(Clone, Copy)]
 pub enum Scanned {
     Numbers { order: u32, labels: usize },
     BadAt(u64),

@@ -14,7 +14,7 @@ use Rattle.model.proofs.Lists.{rising_agree, rising_add, map-append, joined-appe
 use Rattle.model.proofs.Labels.{Inside}
 use Rattle.writer.specs.Written.{product_of, quotient_of}
 use Rattle.writer.proofs.Written.{Parts}
-use Rattle.writer.specs.Worked.{number_at, kept_at, inner_at, product_at_is, up_to, down_to, formula_at}
+use Rattle.writer.specs.Worked.{number_at, kept_at, inner_at, product_at, up_to, down_to, formula_at}
 use Rattle.writer.specs.Sweep.{right_of, others_at, row_at}
 
 -- the records of the products that are kept of a row of numbers: one or none for each
@@ -55,22 +55,22 @@ module _ (n : ℕ) (work : List ℕ) where
       }
 
   pub forward-parts : (m pivot : ℕ) → pivot ≡ number_at n work m m → Parts (records_of (forward n [] (number_at n work) (kept_at n work) m))
-      (rec 2 m 0 ∷ []) (up_to (product_at_is n work 5 m) m) (quotient_of 7 pivot) (rec 8 0 0 ∷ [])
-  unfolding records_of forward opening product_at_is kept_at
+      (rec 2 m 0 ∷ []) (up_to (product_at n work 5 m) m) (quotient_of 7 pivot) (rec 8 0 0 ∷ [])
+  unfolding records_of forward opening product_at kept_at
   forward-parts m pivot e =
       record {
         are = rw e (ap (λ rs. rec 2 m 0 ∷ (rs ++ (quotient_of 7 (number_at n work m m) ++ (rec 8 0 0 ∷ []))))
-            (kept-rising 5 (λ h. (number_at n work m h, h)) (kept_at n work m) (product_at_is n work 5 m) 1 (m - 1)
+            (kept-rising 5 (λ h. (number_at n work m h, h)) (kept_at n work m) (product_at n work 5 m) 1 (m - 1)
             (λ h low. both_factors 5 (number_at n work m h) h low)));
       }
 
   pub backward-parts : (i : ℕ) → Parts (records_of (backward n [] (number_at n work) (kept_at n work) i))
-      (rec 3 i 0 ∷ []) (down_to (product_at_is n work 6 i) n i) [] (rec 8 0 0 ∷ [])
-  unfolding records_of backward opening product_at_is kept_at
+      (rec 3 i 0 ∷ []) (down_to (product_at n work 6 i) n i) [] (rec 8 0 0 ∷ [])
+  unfolding records_of backward opening product_at kept_at
   backward-parts i =
       record {
         are = ap (λ rs. rec 3 i 0 ∷ (rs ++ (rec 8 0 0 ∷ [])))
-            (kept-falling 6 (λ h. (number_at n work i h, h)) (kept_at n work i) (product_at_is n work 6 i) n (n - i) (omega arith)
+            (kept-falling 6 (λ h. (number_at n work i h, h)) (kept_at n work i) (product_at n work 6 i) n (n - i) (omega arith)
             (λ h low. both_factors 6 (number_at n work i h) h low));
       }
 
@@ -79,8 +79,8 @@ module _ (n : ℕ) (work : List ℕ) where
     other : ℕ → List Record
     other j = cond (not (eqb j r) && kept_at n work r j) (rec 11 (number_at n work r j) j ∷ []) []
 
-    apart : (j : ℕ) → 1 ≤ j → (j ≡ r → ⊥) → other j ≡ product_at_is n work 11 r j
-    unfolding other product_at_is kept_at
+    apart : (j : ℕ) → 1 ≤ j → (j ≡ r → ⊥) → other j ≡ product_at n work 11 r j
+    unfolding other product_at kept_at
     apart j low differs = rw (ne_eqb j r differs) (sym (both_factors 11 (number_at n work r j) j low))
 
     right : joined (rising other r (suc (n - r))) ≡ right_of n work r
@@ -88,7 +88,7 @@ module _ (n : ℕ) (work : List ℕ) where
     right =
         let same : suc n - suc r ≡ n - r = omega arith in
         rw (eq-eqb r r refl, same)
-        (ap joined (rising_agree other (product_at_is n work 11 r) (suc r) (suc r) (n - r) (λ k below. apart (suc r + k) (omega arith) (λ e. omega arith))))
+        (ap joined (rising_agree other (product_at n work 11 r) (suc r) (suc r) (n - r) (λ k below. apart (suc r + k) (omega arith) (λ e. omega arith))))
 
     others : joined (rising other 1 n) ≡ others_at n work r
     others =
@@ -98,7 +98,7 @@ module _ (n : ℕ) (work : List ℕ) where
         ∙ ap joined (rising_add other 1 (r - 1) (suc (n - r)))
         ∙ joined-append (rising other 1 (r - 1)) _
         ∙ ap₂ ◌++◌
-        (ap joined (rising_agree other (product_at_is n work 11 r) 1 1 (r - 1) (λ k below. apart (1 + k) (omega arith) (λ e. omega arith))))
+        (ap joined (rising_agree other (product_at n work 11 r) 1 1 (r - 1) (λ k below. apart (1 + k) (omega arith) (λ e. omega arith))))
         (rw here right)
 
     pub row-parts : (diagonal : ℕ) → diagonal ≡ number_at n work r r

@@ -17,7 +17,7 @@ use Rattle.model.specs.Program.{records_of}
 use Rattle.model.proofs.Labels.{Inside, label-range, label-turn, label-next}
 use Rattle.model.proofs.Plans.{plan-length}
 use Rattle.model.proofs.Pointer.{is_next, passed_by, position-next, planned-next, passed-next, passed-at_most}
-use Rattle.writer.specs.Worked.{number_at, kept_at, inner_at, product_at_is, NoneBelow, formula_at}
+use Rattle.writer.specs.Worked.{number_at, kept_at, inner_at, product_at, NoneBelow, formula_at}
 use Rattle.writer.specs.Written.{Room, Wrote}
 use Rattle.writer.specs.Line.{Ready, Before, divisor_of, place_at, line_at, line_records, y_at, batch_at}
 use Rattle.slots.specs.Batch.{row_of, column_of, first_of}
@@ -57,8 +57,8 @@ module _ {n : ℕ} {L : Plan} {work in_rows in_columns : List ℕ} (ready : Read
             (inr (ready.columns h j (omega arith) (omega (arith, ap (λ k. get_or in_rows k 0) same_row, ap (λ k. get_or in_columns k 0) same-column))))
       ]
 
-  pub forward-none : (m a from : ℕ) → Inside n m m → a ≡ m → from ≡ get_or in_rows a 0 → NoneBelow (product_at_is n work 5 m) from m
-  unfolding product_at_is
+  pub forward-none : (m a from : ℕ) → Inside n m m → a ≡ m → from ≡ get_or in_rows a 0 → NoneBelow (product_at n work 5 m) from m
+  unfolding product_at
   forward-none m a from inside same e h low below both =
       product-left_out 5 (number_at n work m h) h (inl (ready.rows m h (omega arith) (omega (arith, ap (λ k. get_or in_rows k 0) same))))
 

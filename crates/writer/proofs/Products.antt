@@ -13,7 +13,7 @@ use Rattle.model.specs.Program.{Record}
 use Rattle.model.proofs.Labels.{Inside, label-range, label_right}
 use Rattle.model.proofs.Lines.{label-lower-step, label-upper-step}
 use Rattle.writer.specs.Written.{Room, Wrote, product_of}
-use Rattle.writer.specs.Worked.{number_at, Covers, inner_at, product_at_is, up_to, down_to, NoneBelow}
+use Rattle.writer.specs.Worked.{number_at, Covers, inner_at, product_at, up_to, down_to, NoneBelow}
 use Rattle.writer.proofs.Written.{Writing, writing_starts, writing_room, writing_more, writing_ends, wrote_none}
 
 -- ---- labels
@@ -40,8 +40,8 @@ pub inner-at : {n : ℕ} {work : List ℕ} {i j h x y : ℕ} → Stands n work i
 unfolding inner_at
 inner-at left right = ap₂ (product_of 4) (number-at left) (number-at right)
 
-pub product_at_is : (kind : ℕ) {n : ℕ} {work : List ℕ} {i h x : ℕ} → Stands n work i h x → product_at_is n work kind i h ≡ product_of kind (get_or work (x - 1) 0) h
-unfolding product_at_is
+pub product_at_is : (kind : ℕ) {n : ℕ} {work : List ℕ} {i h x : ℕ} → Stands n work i h x → product_at n work kind i h ≡ product_of kind (get_or work (x - 1) 0) h
+unfolding product_at
 product_at_is kind {h = h} here = ap (λ p. product_of kind p h) (number-at here)
 
 -- one to the left in a row, right of the diagonal

@@ -7,7 +7,7 @@ use Rattle.model.specs.Fill.{Plan}
 use Rattle.model.specs.Program.{Record, records_of}
 use Rattle.model.specs.Sweep.{row_formula, sweep_record, bare, position_numbers}
 use Rattle.model.specs.Compile.{judged, good, sweep, records_by}
-use Rattle.writer.specs.Worked.{number_at, kept_at, product_at_is, up_to}
+use Rattle.writer.specs.Worked.{number_at, kept_at, product_at, up_to}
 
 -- the first n² work numbers are the positions in the plan
 pub record Positions (n : ℕ) (L : Plan) (work : List ℕ) : Type 0 where
@@ -16,10 +16,10 @@ pub record Positions (n : ℕ) (L : Plan) (work : List ℕ) : Type 0 where
 module _ (n : ℕ) (work : List ℕ) where
   -- the products a(r,j) x(j): those right of the diagonal, and those of all other columns, "in rising order"
   abbrev pub right_of : ℕ → List Record
-  right_of r = joined (rising (product_at_is n work 11 r) (suc r) (suc n - suc r))
+  right_of r = joined (rising (product_at n work 11 r) (suc r) (suc n - suc r))
 
   abbrev pub others_at : ℕ → List Record
-  others_at r = up_to (product_at_is n work 11 r) r ++ right_of r
+  others_at r = up_to (product_at n work 11 r) r ++ right_of r
 
   -- the records of row r, and of all rows
   unfoldable pub row_at : ℕ → List Record

@@ -25,8 +25,8 @@ unfoldable pub inner_at : ℕ → List ℕ → ℕ → ℕ → ℕ → List Reco
 inner_at n work i j h = product_of 4 (number_at n work i h) (number_at n work h j)
 
 -- and of that of place (i, h) with entry h of another table: of l(i,h) y(h) by kind 5, of u(i,h) x(h) by 6, of a(i,h) x(h) by 11
-unfoldable pub product_at_is : ℕ → List ℕ → ℕ → ℕ → ℕ → List Record
-product_at_is n work kind i h = product_of kind (number_at n work i h) h
+unfoldable pub product_at : ℕ → List ℕ → ℕ → ℕ → ℕ → List Record
+product_at n work kind i h = product_of kind (number_at n work i h) h
 
 -- the records for h = 1..m-1, and for h = n..i+1
 abbrev pub up_to : (ℕ → List Record) → ℕ → List Record

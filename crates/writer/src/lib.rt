@@ -1,4 +1,5 @@
 // The writer: the records of a plan's formulas, from its work numbers. Document 01, "Records".
+#![tactic(auto)]
 pub mod rows;
 
 ghost use Rattle.std.specs.Prelude.{◌≡◌, cond, ◌∷◌, [], ◌++◌, eqb, suc, ◌-◌, ◌*◌, ◌≤◌, min, length, drop, set};
@@ -8,7 +9,7 @@ ghost use Rattle.model.specs.Program.{rec, records_of, program};
 ghost use Rattle.model.proofs.Labels.{Inside};
 ghost use Rattle.model.proofs.Pointer.{is_next, passed_by};
 ghost use Rattle.writer.specs.Written.{Room, Wrote, product_of, quotient_of};
-ghost use Rattle.writer.specs.Worked.{number_at, kept_at, Covers, inner_at, product_at_is, up_to, down_to, NoneBelow, formula_at};
+ghost use Rattle.writer.specs.Worked.{number_at, kept_at, Covers, inner_at, product_at, up_to, down_to, NoneBelow, formula_at};
 ghost use Rattle.writer.specs.Prepared.{Prepared};
 ghost use Rattle.writer.specs.Line.{Ready, Before, divisor_of, place_at, line_records, batch_at, batch_records, solution_records, plan_records};
 ghost use Rattle.slots.specs.Batch.{row_of, column_of, first_of};
@@ -17,7 +18,7 @@ use numbers::{larger, smaller, wide};
 use slots::lines::{column_of, first_of, row_of, zeros};
 
 // How far the plan is written: the next free record, the places done and the plan's labels among them.
-#[derive(Drop)]
+#[derive(Clone, Copy)]
 pub struct Cursor {
     pub next: u32,
     pub done: u32,
@@ -26,7 +27,7 @@ pub struct Cursor {
 
 // A place of the table that is held: its row and column, its slot, its position in the plan, 0 if it isn't there, and the slot that its formula
 // is divided by, 0 for none.
-#[derive(Drop)]
+#[derive(Clone, Copy)]
 struct Place {
     row: u32,
     column: u32,
@@ -293,7 +294,7 @@ pub fn write_forward(
     requires covers { Covers n work.now }
     requires inside { Inside n m m }
     requires pivot_value { pivot ≡ number_at n work.now m m }
-    requires none_below { NoneBelow (product_at_is n work.now 5 m) from m }
+    requires none_below { NoneBelow (product_at n work.now 5 m) from m }
     requires room { Room k k (records_of (forward n [] (number_at n work.now) (kept_at n work.now) m)) rest.old }
     ensures { Wrote k k (records_of (forward n [] (number_at n work.now) (kept_at n work.now) m))
         rest.old rest.new result }
@@ -364,9 +365,9 @@ fn write_left(
 ) -> u32
     requires covers { Covers n work.now }
     requires inside { Inside n m m }
-    requires none_below { NoneBelow (product_at_is n work.now kind m) from m }
-    requires room { Room first k (up_to (product_at_is n work.now kind m) m) rest.old }
-    ensures { Wrote first k (up_to (product_at_is n work.now kind m) m) rest.old rest.new result }
+    requires none_below { NoneBelow (product_at n work.now kind m) from m }
+    requires room { Room first k (up_to (product_at n work.now kind m) m) rest.old }
+    ensures { Wrote first k (up_to (product_at n work.now kind m) m) rest.old rest.new result }
 {
     let mut next = k;
     let mut h = larger(1, from);
@@ -383,8 +384,8 @@ fn write_left(
 fn write_right(n: u32, work: &[u32], rest: &mut [u32], first: u32, k: u32, i: u32) -> u32
     requires covers { Covers n work.now }
     requires inside { Inside n i i }
-    requires room { Room first k (down_to (product_at_is n work.now 6 i) n i) rest.old }
-    ensures { Wrote first k (down_to (product_at_is n work.now 6 i) n i) rest.old rest.new result }
+    requires room { Room first k (down_to (product_at n work.now 6 i) n i) rest.old }
+    ensures { Wrote first k (down_to (product_at n work.now 6 i) n i) rest.old rest.new result }
 {
     let mut next = k;
     let mut h = n;

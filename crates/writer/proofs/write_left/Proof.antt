@@ -6,7 +6,7 @@ use mathlib.Core.Path.{◌≡◌, ◌∙◌}
 use borrow.Author.Rules.{rules}
 use Rattle.model.specs.Label.{label}
 use Rattle.labels.proofs.Range.{label-answered}
-use Rattle.writer.specs.Worked.{product_at_is}
+use Rattle.writer.specs.Worked.{product_at}
 use Rattle.writer.proofs.Products.{Stands, stands, product_at_is, label_across}
 use Rattle.writer.proofs.Products.{Rising, rising-skips, rising-room, rising-more, rising-ends}
 use Rattle.writer.proofs.Written.{wrote_length}
@@ -15,7 +15,7 @@ use Rattle.writer.proofs.write_left.Tie as tie
 
 abbrev invariant-loop : tie.invariant-loop
 invariant-loop n work rest₀ first k kind m from next₀ h₀ across₀ rest next h across =
-    Rising (product_at_is n work kind m) 1 first k m rest₀ next h rest × (h < m → across ≡ label n m h)
+    Rising (product_at n work kind m) 1 first k m rest₀ next h rest × (h < m → across ≡ label n m h)
 
 abbrev decreases-loop : tie.decreases-loop
 decreases-loop n work rest₀ first k kind m from next₀ h₀ across₀ rest next h across = m - h

@@ -5,7 +5,7 @@ use mathlib.Core.Path.{◌≡◌, ◌∙◌}
 use borrow.Author.Rules.{rules}
 use Rattle.model.specs.Label.{label}
 use Rattle.labels.proofs.Range.{label-answered}
-use Rattle.writer.specs.Worked.{product_at_is}
+use Rattle.writer.specs.Worked.{product_at}
 use Rattle.writer.proofs.Products.{Stands, stands, product_at_is, label-left}
 use Rattle.writer.proofs.Products.{Falling, falling_starts, falling-room, falling_more, falling-ends}
 use Rattle.writer.proofs.Written.{wrote_length}
@@ -14,7 +14,7 @@ use Rattle.writer.proofs.write_right.Tie as tie
 
 abbrev invariant-loop : tie.invariant-loop
 invariant-loop n work rest₀ first k i next₀ h₀ across₀ rest next h across =
-    Falling (product_at_is n work 6 i) first k n i rest₀ next h rest × (i < h → across ≡ label n i h)
+    Falling (product_at n work 6 i) first k n i rest₀ next h rest × (i < h → across ≡ label n i h)
 
 abbrev decreases-loop : tie.decreases-loop
 decreases-loop n work rest₀ first k i next₀ h₀ across₀ rest next h across = h

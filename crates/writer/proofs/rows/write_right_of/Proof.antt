@@ -7,7 +7,7 @@ use mathlib.Core.Path.{◌≡◌, ◌∙◌}
 use borrow.Author.Rules.{rules}
 use Rattle.model.specs.Label.{label}
 use Rattle.labels.proofs.Range.{label-answered}
-use Rattle.writer.specs.Worked.{product_at_is}
+use Rattle.writer.specs.Worked.{product_at}
 use Rattle.writer.proofs.Products.{Stands, stands, product_at_is}
 use Rattle.writer.proofs.Products.{Rising, rising_starts, rising-room, rising-more, rising-ends}
 use Rattle.writer.proofs.Sweep.{label_right_of, label-onward}
@@ -17,7 +17,7 @@ use Rattle.writer.proofs.rows.write_right_of.Tie as tie
 
 abbrev invariant-loop : tie.invariant-loop
 invariant-loop n work rest₀ first k r next₀ j₀ across₀ rest next j across =
-    Rising (product_at_is n work 11 r) (suc r) first k (suc n) rest₀ next j rest × (across ≡ label n r j)
+    Rising (product_at n work 11 r) (suc r) first k (suc n) rest₀ next j rest × (across ≡ label n r j)
 
 abbrev decreases-loop : tie.decreases-loop
 decreases-loop n work rest₀ first k r next₀ j₀ across₀ rest next j across = suc n - j
