@@ -7,26 +7,26 @@ use Rattle.costs.specs.Costed.{costs_of}
 use Rattle.answers.proofs.costs_answer.Statement.{statement}
 use Rattle.answers.proofs.costs_answer.Tie as tie
 
-enum_told : tie.Need-enum-told
-enum_told c = search rules
+enum_told-1 : tie.Need-enum_told-1
+enum_told-1 c = search rules
 
-enum-told-2 : tie.Need-enum-told-2
-enum-told-2 c = search rules
+enum_told-in-No : tie.Need-enum_told-in-No
+enum_told-in-No c = search rules
 
-enum-known-answer : tie.Need-enum-known-answer
-enum-known-answer c = search rules
+enum_known-answer : tie.Need-enum_known-answer
+enum_known-answer c = search rules
 
 refusal-requires : tie.Need-refusal-requires
-refusal-requires c κs = subst (λ v. costs_number v < 2 ^ 64) (ap costs_of c.before.answer.given.1) c.before.before.before.requires
+refusal-requires c κs = subst (λ v. costs_number v < 2 ^ 64) (ap costs_of c.answer-1.given.1) c.requires
 
-returns : tie.Need-returns
-returns c = search rules
+returns-in-Yes : tie.Need-returns-in-Yes
+returns-in-Yes c = search rules
 
-returns-2 : tie.Need-returns-2
-returns-2 c = search rules
+returns-in-No : tie.Need-returns-in-No
+returns-in-No c = search rules
 
-returns-3 : tie.Need-returns-3
-returns-3 c = c.refusal.ensures ∙ ap costs_number (sym (ap costs_of c.before.before.answer.given.1))
+returns-in-Refused : tie.Need-returns-in-Refused
+returns-in-Refused c = c.refusal.ensures ∙ ap costs_number (sym (ap costs_of c.answer-1.given.1))
 
-pub costs-answer_spec : {M : Type 1} → statement M
-costs-answer_spec = tie.close (tie.spec enum_told enum-told-2 enum-known-answer refusal-requires returns returns-2 returns-3)
+pub costs_answer_spec : {M : Type 1} → statement M
+costs_answer_spec = tie.close (tie.spec enum_told-1 enum_told-in-No enum_known-answer refusal-requires returns-in-Yes returns-in-No returns-in-Refused)

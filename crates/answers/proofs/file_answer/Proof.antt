@@ -8,21 +8,21 @@ use Rattle.answers.proofs.Numbers.{carried}
 use Rattle.answers.proofs.file_answer.Statement.{statement}
 use Rattle.answers.proofs.file_answer.Tie as tie
 
-enum-known-answer : tie.Need-enum-known-answer
-enum-known-answer c = search rules
+enum_known-answer : tie.Need-enum_known-answer
+enum_known-answer c = search rules
 
-enum-known-answer-2 : tie.Need-enum-known-answer-2
-enum-known-answer-2 c = search rules
+enum_known-answer-in-Refused-1 : tie.Need-enum_known-answer-in-Refused-1
+enum_known-answer-in-Refused-1 c = search rules
 
 refusal-requires : tie.Need-refusal-requires
-refusal-requires c κs = subst (λ v. filed_number v < 2 ^ 64) (ap filed_of c.before.before.answer2.given.1) c.before.before.before.before.requires
+refusal-requires c κs = subst (λ v. filed_number v < 2 ^ 64) (ap filed_of c.answer-in-Refused-1.given.1) c.requires
 
-returns : tie.Need-returns
-returns c = carried filed_number filed_numbers (sym (ap filed_of c.before.before.answer.given.1)) (refl, refl)
+returns-in-Done : tie.Need-returns-in-Done
+returns-in-Done c = carried filed_number filed_numbers (sym (ap filed_of c.answer-1.given.1)) (refl, refl)
 
-returns-2 : tie.Need-returns-2
-returns-2 c = carried filed_number filed_numbers (sym (ap filed_of c.before.before.before.answer2.given.1)) (c.refusal.ensures, refl)
+returns-in-Refused : tie.Need-returns-in-Refused
+returns-in-Refused c = carried filed_number filed_numbers (sym (ap filed_of c.answer-in-Refused-1.given.1)) (c.refusal.ensures, refl)
 
 pub file_answer_spec : {M : Type 1} → statement M
 file_answer_spec =
-    tie.close (tie.spec enum-known-answer enum-known-answer-2 refusal-requires returns returns-2)
+    tie.close (tie.spec enum_known-answer enum_known-answer-in-Refused-1 refusal-requires returns-in-Done returns-in-Refused)

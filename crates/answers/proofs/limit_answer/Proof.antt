@@ -8,51 +8,51 @@ use Rattle.answers.proofs.Numbers.{carried}
 use Rattle.answers.proofs.limit_answer.Statement.{statement}
 use Rattle.answers.proofs.limit_answer.Tie as tie
 
-enum-known-answer : tie.Need-enum-known-answer
-enum-known-answer c = search rules
+enum_known-answer : tie.Need-enum_known-answer
+enum_known-answer c = search rules
 
-enum-known-answer-2 : tie.Need-enum-known-answer-2
-enum-known-answer-2 c = search rules
+enum_known-answer-in-Stopped-1 : tie.Need-enum_known-answer-in-Stopped-1
+enum_known-answer-in-Stopped-1 c = search rules
 
-cast-refusal : tie.Need-overflow-cast-refusal
-cast-refusal c = search rules
+overflow_cast-out : tie.Need-overflow_cast-out
+overflow_cast-out c = search rules
 
-cast-t15 : tie.Need-overflow-cast-t15
-cast-t15 c = search rules
+overflow_cast-out-in-Stopped : tie.Need-overflow_cast-out-in-Stopped
+overflow_cast-out-in-Stopped c = search rules
 
-cast-refusal-2 : tie.Need-overflow-cast-refusal-2
-cast-refusal-2 c = search rules
+overflow_cast-record : tie.Need-overflow_cast-record
+overflow_cast-record c = search rules
 
 refusal-requires : tie.Need-refusal-requires
 refusal-requires c κs = search rules
 
-enum-known-answer-3 : tie.Need-enum-known-answer-3
-enum-known-answer-3 c = search rules
+enum_known-answer-in-Refused-1 : tie.Need-enum_known-answer-in-Refused-1
+enum_known-answer-in-Refused-1 c = search rules
 
-refusal-requires-2 : tie.Need-refusal-requires-2
-refusal-requires-2 c κs = subst (λ v. reply_number v < 2 ^ 64) (ap reply_of c.before.before.answer3.given.1) c.before.before.before.before.requires
+refusal-requires-in-Refused : tie.Need-refusal-requires-in-Refused
+refusal-requires-in-Refused c κs = subst (λ v. reply_number v < 2 ^ 64) (ap reply_of c.answer-in-Refused-1.given.1) c.requires
 
-returns : tie.Need-returns
-returns c = carried reply_number limit_numbers (sym (ap reply_of c.before.before.answer.given.1)) (refl, refl)
+returns-in-Solved : tie.Need-returns-in-Solved
+returns-in-Solved c = carried reply_number limit_numbers (sym (ap reply_of c.answer-1.given.1)) (refl, refl)
 
-returns-2 : tie.Need-returns-2
-returns-2 c = carried reply_number limit_numbers (sym (ap reply_of c.before.before.before.answer2.given.1)) (c.refusal.ensures, refl)
+returns-in-Stopped : tie.Need-returns-in-Stopped
+returns-in-Stopped c = carried reply_number limit_numbers (sym (ap reply_of c.answer-in-Stopped-1.given.1)) (c.refusal.ensures, refl)
 
-returns-3 : tie.Need-returns-3
-returns-3 c = carried reply_number limit_numbers (sym (ap reply_of c.before.before.before.answer3.given.1)) (c.refusal2.ensures, refl)
+returns-in-Refused : tie.Need-returns-in-Refused
+returns-in-Refused c = carried reply_number limit_numbers (sym (ap reply_of c.answer-in-Refused-1.given.1)) (c.refusal-in-Refused.ensures, refl)
 
 pub limit_answer_spec : {M : Type 1} → statement M
 limit_answer_spec =
     tie.close
     (tie.spec
-    enum-known-answer
-    enum-known-answer-2
-    cast-refusal
-    cast-t15
-    cast-refusal-2
+    enum_known-answer
+    enum_known-answer-in-Stopped-1
+    overflow_cast-out
+    overflow_cast-out-in-Stopped
+    overflow_cast-record
     refusal-requires
-    enum-known-answer-3
-    refusal-requires-2
-    returns
-    returns-2
-    returns-3)
+    enum_known-answer-in-Refused-1
+    refusal-requires-in-Refused
+    returns-in-Solved
+    returns-in-Stopped
+    returns-in-Refused)

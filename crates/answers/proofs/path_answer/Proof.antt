@@ -12,24 +12,24 @@ use Rattle.answers.proofs.path_answer.Tie as tie
 abbrev number : Traced → ℕ
 number t = verdict_number (traced_verdict t)
 
-enum-known-answer : tie.Need-enum-known-answer
-enum-known-answer c = search rules
+enum_known-answer : tie.Need-enum_known-answer
+enum_known-answer c = search rules
 
-cast-t7 : tie.Need-overflow-cast-t7
-cast-t7 c = search rules
+overflow_cast-out : tie.Need-overflow_cast-out
+overflow_cast-out c = search rules
 
-enum-known-answer-2 : tie.Need-enum-known-answer-2
-enum-known-answer-2 c = search rules
+enum_known-answer-in-Refused-1 : tie.Need-enum_known-answer-in-Refused-1
+enum_known-answer-in-Refused-1 c = search rules
 
 refusal-requires : tie.Need-refusal-requires
-refusal-requires c κs = subst (λ v. number v < 2 ^ 64) (ap traced_of c.before.before.answer2.given.1) c.before.before.before.before.requires
+refusal-requires c κs = subst (λ v. number v < 2 ^ 64) (ap traced_of c.answer-in-Refused-1.given.1) c.requires
 
-returns : tie.Need-returns
-returns c = carried number traced_numbers (sym (ap traced_of c.before.before.answer.given.1)) (refl, refl)
+returns-in-Found : tie.Need-returns-in-Found
+returns-in-Found c = carried number traced_numbers (sym (ap traced_of c.answer-1.given.1)) (refl, refl)
 
-returns-2 : tie.Need-returns-2
-returns-2 c = carried number traced_numbers (sym (ap traced_of c.before.before.before.answer2.given.1)) (c.refusal.ensures, refl)
+returns-in-Refused : tie.Need-returns-in-Refused
+returns-in-Refused c = carried number traced_numbers (sym (ap traced_of c.answer-in-Refused-1.given.1)) (c.refusal.ensures, refl)
 
-pub path-answer_spec : {M : Type 1} → statement M
-path-answer_spec =
-    tie.close (tie.spec enum-known-answer cast-t7 enum-known-answer-2 refusal-requires returns returns-2)
+pub path_answer_spec : {M : Type 1} → statement M
+path_answer_spec =
+    tie.close (tie.spec enum_known-answer overflow_cast-out enum_known-answer-in-Refused-1 refusal-requires returns-in-Found returns-in-Refused)

@@ -7,20 +7,20 @@ use Rattle.checker.specs.Checked.{verdict_of}
 use Rattle.answers.proofs.verdict_answer.Statement.{statement}
 use Rattle.answers.proofs.verdict_answer.Tie as tie
 
-enum_told : tie.Need-enum-told
-enum_told c = search rules
+enum_told-1 : tie.Need-enum_told-1
+enum_told-1 c = search rules
 
-enum-known-answer : tie.Need-enum-known-answer
-enum-known-answer c = search rules
+enum_known-answer : tie.Need-enum_known-answer
+enum_known-answer c = search rules
 
 refusal-requires : tie.Need-refusal-requires
-refusal-requires c κs = subst (λ v. verdict_number v < 2 ^ 64) (ap verdict_of c.before.answer.given.1) c.before.before.before.requires
+refusal-requires c κs = subst (λ v. verdict_number v < 2 ^ 64) (ap verdict_of c.answer-1.given.1) c.requires
 
-returns : tie.Need-returns
-returns c = search rules
+returns-in-Fine : tie.Need-returns-in-Fine
+returns-in-Fine c = search rules
 
-returns-2 : tie.Need-returns-2
-returns-2 c = c.refusal.ensures ∙ ap verdict_number (sym (ap verdict_of c.before.before.answer.given.1))
+returns-in-Refused : tie.Need-returns-in-Refused
+returns-in-Refused c = c.refusal.ensures ∙ ap verdict_number (sym (ap verdict_of c.answer-1.given.1))
 
-pub verdict-answer_spec : {M : Type 1} → statement M
-verdict-answer_spec = tie.close (tie.spec enum_told enum-known-answer refusal-requires returns returns-2)
+pub verdict_answer_spec : {M : Type 1} → statement M
+verdict_answer_spec = tie.close (tie.spec enum_told-1 enum_known-answer refusal-requires returns-in-Fine returns-in-Refused)

@@ -4,14 +4,14 @@ use borrow.Author.Rules.{rules}
 use Rattle.arith.proofs.answer.Statement.{statement}
 use Rattle.arith.proofs.answer.Tie as tie
 
-is-finite-requires : tie.Need-is-finite-requires
-is-finite-requires c κs = search rules
+is_finite-requires : tie.Need-is_finite-requires
+is_finite-requires c κs = search rules
 
-returns : tie.Need-returns
-returns c = (rw (← c.before.is_finite.ensures, c.if1.true), refl)
+returns-then-is_finite : tie.Need-returns-then-is_finite
+returns-then-is_finite c = (rw (← c.is_finite.ensures, c.if-is_finite.true), refl)
 
-returns-2 : tie.Need-returns-2
-returns-2 c = (rw (← c.before.is_finite.ensures, c.if1.false), refl)
+returns-else-is_finite : tie.Need-returns-else-is_finite
+returns-else-is_finite c = (rw (← c.is_finite.ensures, c.if-is_finite.false), refl)
 
 pub answer_spec : {M : Type 1} → statement M
-answer_spec = tie.close (tie.spec is-finite-requires returns returns-2)
+answer_spec = tie.close (tie.spec is_finite-requires returns-then-is_finite returns-else-is_finite)

@@ -22,8 +22,8 @@ returns c =
     let b = start.args.b in (
       c.answer.ensures.0
           ∙ settles _ _
-          (ap (add binary64 start.args.a) c.before.read.ensures
-          ∙ add_clean binary64 start.args.a (neg b) (passes _ start.well-formed.0.1) (neg-fits binary64 b (passes _ start.well-formed.1.0.1))),
+          (ap (add binary64 start.args.a) c.read.ensures
+          ∙ add_clean binary64 start.args.a (neg b) (passes _ start.well_formed.0.1) (neg-fits binary64 b (passes _ start.well_formed.1.0.1))),
       c.answer.ensures.1,
     )
 

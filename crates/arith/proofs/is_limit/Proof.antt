@@ -5,16 +5,16 @@ use Rattle.model.specs.Arith.{is_limit}
 use Rattle.arith.proofs.is_limit.Statement.{statement}
 use Rattle.arith.proofs.is_limit.Tie as tie
 
-is-finite-requires : tie.Need-is-finite-requires
-is-finite-requires c κs = search rules
+is_finite-requires : tie.Need-is_finite-requires
+is_finite-requires c κs = search rules
 
-returns : tie.Need-returns
+returns-then-is_finite : tie.Need-returns-then-is_finite
 unfolding is_limit of_bits
-returns c = rw (is_limit, ← c.before.is_finite.ensures, c.if1.true)
+returns-then-is_finite c = rw (is_limit, ← c.is_finite.ensures, c.if-is_finite.true)
 
-returns-2 : tie.Need-returns-2
+returns-else-is_finite : tie.Need-returns-else-is_finite
 unfolding is_limit
-returns-2 c = rw (is_limit, ← c.before.is_finite.ensures, c.if1.false)
+returns-else-is_finite c = rw (is_limit, ← c.is_finite.ensures, c.if-is_finite.false)
 
 pub is_limit_spec : {M : Type 1} → statement M
-is_limit_spec = tie.close (tie.spec is-finite-requires returns returns-2)
+is_limit_spec = tie.close (tie.spec is_finite-requires returns-then-is_finite returns-else-is_finite)

@@ -3,13 +3,13 @@ use Rattle.model.specs.Arith.{is_small}
 use Rattle.arith.proofs.is_small.Statement.{statement}
 use Rattle.arith.proofs.is_small.Tie as tie
 
-returns : tie.Need-returns
+returns-then-limit-value : tie.Need-returns-then-limit-value
 unfolding is_small
-returns c = rw (is_small, c.if1.true)
+returns-then-limit-value c = rw (is_small, c.if-limit-value.true)
 
-returns-2 : tie.Need-returns-2
+returns-else-limit-value : tie.Need-returns-else-limit-value
 unfolding is_small
-returns-2 c = rw (is_small, c.if1.false)
+returns-else-limit-value c = rw (is_small, c.if-limit-value.false)
 
 pub is_small_spec : {M : Type 1} → statement M
-is_small_spec = tie.close (tie.spec returns returns-2)
+is_small_spec = tie.close (tie.spec returns-then-limit-value returns-else-limit-value)

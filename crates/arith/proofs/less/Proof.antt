@@ -18,34 +18,34 @@ answer-requires c κs = search rules
 read-requires : tie.Need-read-requires
 read-requires c κs = search rules
 
-product-answer-requires : tie.Need-product-answer-requires
-product-answer-requires c κs = search rules
+product_answer-requires : tie.Need-product_answer-requires
+product_answer-requires c κs = search rules
 
 -- a product that passed the test is no zero
-nonzero : (c : tie.Then2) → is_zero (mul binary64 c.before.before.args.a c.before.before.args.b) ≡ false
+nonzero : (c : tie.Then-product-2) → is_zero (mul binary64 c.args.a c.args.b) ≡ false
 unfolding of_bits
-nonzero c = ⊎_elim (λ w. below_nonzero _ w.0.taken) (λ w. above_nonzero _ (sym w.1 ∙ c.if2.true)) c.before.if1.branch
+nonzero c = ⊎_elim (λ w. below_nonzero _ w.0.taken) (λ w. above_nonzero _ (sym w.1 ∙ c.if-product-2.true)) c.if-product.branch
 
-returns : tie.Need-returns
+returns-then-product-2 : tie.Need-returns-then-product-2
 unfolding less product difference
-returns c =
-    let fits = passes _ c.before.before.before.well-formed.0.1 in
+returns-then-product-2 c =
+    let fits = passes _ c.well_formed.0.1 in
     let some = nonzero c.before in (
       c.answer.ensures.0 ∙ settles _ _ (difference-clean _ _ fits (mul-fits binary64 _ _) some) ∙ difference-settles _ _ fits,
       c.answer.ensures.1 ∙ rw (nonzero_kept _ _ some, and-false),
     )
 
-returns-2 : tie.Need-returns-2
+returns-else-product-2 : tie.Need-returns-else-product-2
 unfolding less product difference sub
-returns-2 c =
+returns-else-product-2 c =
     let start = c.before.before.before.before in
     let x = start.args.acc in
     let p = mul binary64 start.args.a start.args.b in
-    let fits = passes _ start.well-formed.0.1 in
-    let value = ap (add binary64 x) c.before.read.ensures ∙ add_clean binary64 x (neg p) fits (neg-fits binary64 p (mul-fits binary64 _ _)) in (
-      c.product-answer.ensures.0 ∙ settles _ _ value ∙ difference-settles _ _ fits,
-      c.product-answer.ensures.1 ∙ less_tells _ _ _ _ fits value,
+    let fits = passes _ start.well_formed.0.1 in
+    let value = ap (add binary64 x) c.read.ensures ∙ add_clean binary64 x (neg p) fits (neg-fits binary64 p (mul-fits binary64 _ _)) in (
+      c.product_answer.ensures.0 ∙ settles _ _ value ∙ difference-settles _ _ fits,
+      c.product_answer.ensures.1 ∙ less_tells _ _ _ _ fits value,
     )
 
 pub less_spec : {M : Type 1} → statement M
-less_spec = tie.close (tie.spec answer-requires read-requires product-answer-requires returns returns-2)
+less_spec = tie.close (tie.spec answer-requires read-requires product_answer-requires returns-then-product-2 returns-else-product-2)

@@ -28,54 +28,54 @@ moves-as limit old new r e = ap (moves_as limit) e ∙ by (difference new old)
 
 -- the case that the match found says what the answer is
 found : (c : tie.After-difference) (r : Operation) → c.difference.result ≡ r
-    → let a = c.before.args in moves_as a.limit (answer_of r) ≡ moves_more a.limit a.old a.new
+    → let a = c.args in moves_as a.limit (answer_of r) ≡ moves_more a.limit a.old a.new
 found c r e =
-    let a = c.before.args in
+    let a = c.args in
     ap (λ o. moves_as a.limit (answer_of o)) (sym e) ∙ moves-as a.limit a.old a.new c.difference.result c.difference.ensures.0
 
 difference-requires : tie.Need-difference-requires
 difference-requires c κs = search rules
 
-enum-known-by : tie.Need-enum-known-by
-enum-known-by c = search rules
+enum_known-by : tie.Need-enum_known-by
+enum_known-by c = search rules
 
-enum-known-by-2 : tie.Need-enum-known-by-2
-enum-known-by-2 c = search rules
+enum_known-by-in-Vanished-1 : tie.Need-enum_known-by-in-Vanished-1
+enum_known-by-in-Vanished-1 c = search rules
 
-is-small-requires : tie.Need-is-small-requires
-is-small-requires c κs = search rules
+is_small-requires : tie.Need-is_small-requires
+is_small-requires c κs = search rules
 
-enum_told : tie.Need-enum-told
-enum_told c = search rules
+enum_told-1 : tie.Need-enum_told-1
+enum_told-1 c = search rules
 
-enum-told-2 : tie.Need-enum-told-2
-enum-told-2 c = search rules
+enum_told-in-ZeroDivisor : tie.Need-enum_told-in-ZeroDivisor
+enum_told-in-ZeroDivisor c = search rules
 
-returns : tie.Need-returns
-returns c = found c.before.before _ c.enum_told.given.1
+returns-in-Overflow : tie.Need-returns-in-Overflow
+returns-in-Overflow c = found c.before.before _ c.enum_told-1.given.1
 
-returns-2 : tie.Need-returns-2
-returns-2 c = found c.before.before _ c.enum-told2.given.1
+returns-in-ZeroDivisor : tie.Need-returns-in-ZeroDivisor
+returns-in-ZeroDivisor c = found c.before.before _ c.enum_told-in-ZeroDivisor-1.given.1
 
-returns-3 : tie.Need-returns-3
-returns-3 c =
-    let limit = c.before.before.before.args.limit in
-    ap not c.is-small.ensures
+returns-in-Number : tie.Need-returns-in-Number
+returns-in-Number c =
+    let limit = c.args.limit in
+    ap not c.is_small.ensures
     ∙ ⊎_elim
     (λ w. ap (λ d. not (is_small limit d)) w.3 ∙ found c.before.before _ w.1.given.1)
     (λ w. ap (λ d. not (is_small limit d)) w.3 ∙ found c.before.before _ w.1.given.1)
-    c.before.match.branch
+    c.match-difference.branch
 
 pub moves_more_spec : {M : Type 1} → statement M
 moves_more_spec =
     tie.close
     (tie.spec
     difference-requires
-    enum-known-by
-    enum-known-by-2
-    enum_told
-    enum-told-2
-    is-small-requires
-    returns
-    returns-2
-    returns-3)
+    enum_known-by
+    enum_known-by-in-Vanished-1
+    enum_told-1
+    enum_told-in-ZeroDivisor
+    is_small-requires
+    returns-in-Overflow
+    returns-in-ZeroDivisor
+    returns-in-Number)

@@ -9,15 +9,15 @@ use Rattle.arith.proofs.product.Tie as tie
 read-requires : tie.Need-read-requires
 read-requires c κs = search rules
 
-product-answer-requires : tie.Need-product-answer-requires
-product-answer-requires c κs = search rules
+product_answer-requires : tie.Need-product_answer-requires
+product_answer-requires c κs = search rules
 
 returns : tie.Need-returns
 unfolding product
 returns c = (
-  c.product-answer.ensures.0 ∙ settles _ _ c.before.read.ensures,
-  c.product-answer.ensures.1 ∙ product_tells _ _ _ c.before.read.ensures,
+  c.product_answer.ensures.0 ∙ settles _ _ c.read.ensures,
+  c.product_answer.ensures.1 ∙ product_tells _ _ _ c.read.ensures,
 )
 
 pub product_spec : {M : Type 1} → statement M
-product_spec = tie.close (tie.spec read-requires product-answer-requires returns)
+product_spec = tie.close (tie.spec read-requires product_answer-requires returns)

@@ -4,24 +4,24 @@ use borrow.Author.Rules.{rules}
 use Rattle.arith.proofs.product_answer.Statement.{statement}
 use Rattle.arith.proofs.product_answer.Tie as tie
 
-is-finite-requires : tie.Need-is-finite-requires
-is-finite-requires c κs = search rules
+is_finite-requires : tie.Need-is_finite-requires
+is_finite-requires c κs = search rules
 
 vanishes-requires : tie.Need-vanishes-requires
 vanishes-requires c κs = search rules
 
-returns : tie.Need-returns
-returns c =
+returns-then-vanishes : tie.Need-returns-then-vanishes
+returns-then-vanishes c =
     let tested = c.before.before in
-    rw (← tested.before.is_finite.ensures, tested.if1.true, ← c.before.vanishes.ensures, c.if2.true) (refl, refl)
+    rw (← tested.is_finite.ensures, tested.if-is_finite.true, ← c.vanishes.ensures, c.if-vanishes.true) (refl, refl)
 
-returns-2 : tie.Need-returns-2
-returns-2 c =
+returns-else-vanishes : tie.Need-returns-else-vanishes
+returns-else-vanishes c =
     let tested = c.before.before in
-    rw (← tested.before.is_finite.ensures, tested.if1.true, ← c.before.vanishes.ensures, c.if2.false) (refl, refl)
+    rw (← tested.is_finite.ensures, tested.if-is_finite.true, ← c.vanishes.ensures, c.if-vanishes.false) (refl, refl)
 
-returns-3 : tie.Need-returns-3
-returns-3 c = rw (← c.before.is_finite.ensures, c.if1.false) (refl, refl)
+returns-else-is_finite : tie.Need-returns-else-is_finite
+returns-else-is_finite c = rw (← c.is_finite.ensures, c.if-is_finite.false) (refl, refl)
 
-pub product-answer_spec : {M : Type 1} → statement M
-product-answer_spec = tie.close (tie.spec is-finite-requires vanishes-requires returns returns-2 returns-3)
+pub product_answer_spec : {M : Type 1} → statement M
+product_answer_spec = tie.close (tie.spec is_finite-requires vanishes-requires returns-then-vanishes returns-else-vanishes returns-else-is_finite)

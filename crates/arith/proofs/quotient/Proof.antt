@@ -6,8 +6,8 @@ use Rattle.arith.proofs.Clean.{settles}
 use Rattle.arith.proofs.quotient.Statement.{statement}
 use Rattle.arith.proofs.quotient.Tie as tie
 
-is-zero-requires : tie.Need-is-zero-requires
-is-zero-requires c κs = search rules
+is_zero-requires : tie.Need-is_zero-requires
+is_zero-requires c κs = search rules
 
 read-requires : tie.Need-read-requires
 read-requires c κs = search rules
@@ -15,16 +15,16 @@ read-requires c κs = search rules
 answer-requires : tie.Need-answer-requires
 answer-requires c κs = search rules
 
-returns : tie.Need-returns
+returns-then-is_zero : tie.Need-returns-then-is_zero
 unfolding quotient
-returns c = (rw (← c.before.is_zero.ensures, c.if1.true), refl)
+returns-then-is_zero c = (rw (← c.is_zero.ensures, c.if-is_zero.true), refl)
 
-returns-2 : tie.Need-returns-2
+returns-else-is_zero : tie.Need-returns-else-is_zero
 unfolding quotient
-returns-2 c = (
-  rw (← c.before.before.before.is_zero.ensures, c.before.before.if1.false) (c.answer.ensures.0 ∙ settles _ _ c.before.read.ensures),
+returns-else-is_zero c = (
+  rw (← c.is_zero.ensures, c.if-is_zero.false) (c.answer.ensures.0 ∙ settles _ _ c.read.ensures),
   c.answer.ensures.1,
 )
 
 pub quotient_spec : {M : Type 1} → statement M
-quotient_spec = tie.close (tie.spec is-zero-requires read-requires answer-requires returns returns-2)
+quotient_spec = tie.close (tie.spec is_zero-requires read-requires answer-requires returns-then-is_zero returns-else-is_zero)

@@ -7,7 +7,7 @@ use Rattle.arith.proofs.read.Tie as tie
 
 returns : tie.Need-returns
 unfolding of_bits
-returns c = add_nought binary64 c.args.value (passes _ c.well-formed.0.1)
+returns c = add_nought binary64 c.args.value (passes _ c.well_formed.0.1)
 
 pub read_spec : {M : Type 1} → statement M
 read_spec = tie.close (tie.spec returns)

@@ -5,37 +5,37 @@ use Rattle.model.specs.Arith.{vanishes}
 use Rattle.arith.proofs.vanishes.Statement.{statement}
 use Rattle.arith.proofs.vanishes.Tie as tie
 
-is-zero-requires : tie.Need-is-zero-requires
-is-zero-requires c κs = search rules
+is_zero-requires : tie.Need-is_zero-requires
+is_zero-requires c κs = search rules
 
-is-zero-requires-2 : tie.Need-is-zero-requires-2
-is-zero-requires-2 c κs = search rules
+is_zero-requires-then-is_zero : tie.Need-is_zero-requires-then-is_zero
+is_zero-requires-then-is_zero c κs = search rules
 
-is-zero-requires-3 : tie.Need-is-zero-requires-3
-is-zero-requires-3 c κs = search rules
+is_zero-requires-then-not-is_zero : tie.Need-is_zero-requires-then-not-is_zero
+is_zero-requires-then-not-is_zero c κs = search rules
 
-returns : tie.Need-returns
+returns-then-not-is_zero : tie.Need-returns-then-not-is_zero
 unfolding vanishes
-returns c =
+returns-then-not-is_zero c =
     let product = c.before.before.before.before in
     let first = c.before.before in
     rw (
       vanishes,
       ← product.is_zero.ensures,
-      c.before.before.before.if1.true,
-      ← first.is-zero2.ensures,
-      c.before.if2.true,
-      ← c.is-zero3.ensures,
+      c.if-is_zero.true,
+      ← first.is_zero-then-is_zero.ensures,
+      c.if-not-is_zero.true,
+      ← c.is_zero-then-not-is_zero.ensures,
       and-true,
     )
 
-returns-2 : tie.Need-returns-2
+returns-else-not-is_zero : tie.Need-returns-else-not-is_zero
 unfolding vanishes
-returns-2 c = rw (vanishes, ← c.before.is-zero2.ensures, c.if2.false)
+returns-else-not-is_zero c = rw (vanishes, ← c.is_zero-then-is_zero.ensures, c.if-not-is_zero.false)
 
-returns-3 : tie.Need-returns-3
+returns-else-is_zero : tie.Need-returns-else-is_zero
 unfolding vanishes
-returns-3 c = rw (vanishes, ← c.before.is_zero.ensures, c.if1.false, and-false, and-false)
+returns-else-is_zero c = rw (vanishes, ← c.is_zero.ensures, c.if-is_zero.false, and-false, and-false)
 
 pub vanishes_spec : {M : Type 1} → statement M
-vanishes_spec = tie.close (tie.spec is-zero-requires is-zero-requires-2 is-zero-requires-3 returns returns-2 returns-3)
+vanishes_spec = tie.close (tie.spec is_zero-requires is_zero-requires-then-is_zero is_zero-requires-then-not-is_zero returns-then-not-is_zero returns-else-not-is_zero returns-else-is_zero)

@@ -8,15 +8,15 @@ use Rattle.answers.proofs.Numbers.{verdict-fits}
 use Rattle.capi.proofs.crout_check.Statement.{statement}
 use Rattle.capi.proofs.crout_check.Tie as tie
 
-check-file-requires : tie.Need-check-file-requires
-check-file-requires c κs = search rules
+check_file-requires : tie.Need-check_file-requires
+check_file-requires c κs = search rules
 
-verdict-answer-requires : tie.Need-verdict-answer-requires
-verdict-answer-requires c κs = verdict-fits c.check-file.ensures (check_file_small _) (omega arith)
+verdict_answer-requires : tie.Need-verdict_answer-requires
+verdict_answer-requires c κs = verdict-fits c.check_file.ensures (check_file_small _) (omega arith)
 
 returns : tie.Need-returns
 unfolding check_number
-returns c = c.verdict-answer.ensures ∙ ap verdict_number c.before.check-file.ensures
+returns c = c.verdict_answer.ensures ∙ ap verdict_number c.check_file.ensures
 
 pub crout_check_spec : {M : Type 1} → statement M
-crout_check_spec = tie.close (tie.spec check-file-requires verdict-answer-requires returns)
+crout_check_spec = tie.close (tie.spec check_file-requires verdict_answer-requires returns)

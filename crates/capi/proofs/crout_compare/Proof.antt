@@ -11,16 +11,16 @@ use Rattle.capi.proofs.crout_compare.Tie as tie
 compare-requires : tie.Need-compare-requires
 compare-requires c κs = search rules
 
-verdict-answer-requires : tie.Need-verdict-answer-requires
-verdict-answer-requires c κs = verdict-fits c.before.before.compare.ensures.0 (compares_small _ _ _ _) (omega arith)
+verdict_answer-requires : tie.Need-verdict_answer-requires
+verdict_answer-requires c κs = verdict-fits c.compare.ensures.0 (compares_small _ _ _ _) (omega arith)
 
-same_length : tie.Need-same-length
-same_length c = search rules
+shape_of-work : tie.Need-shape_of-work
+shape_of-work c = search rules
 
 returns : tie.Need-returns
 returns c =
-    let end = c.before.before.before.compare.ensures in
-    (c.verdict-answer.ensures ∙ ap verdict_number end.0, end.1)
+    let end = c.compare.ensures in
+    (c.verdict_answer.ensures ∙ ap verdict_number end.0, end.1)
 
 pub crout_compare_spec : {M : Type 1} → statement M
-crout_compare_spec = tie.close (tie.spec compare-requires verdict-answer-requires same_length returns)
+crout_compare_spec = tie.close (tie.spec compare-requires verdict_answer-requires shape_of-work returns)

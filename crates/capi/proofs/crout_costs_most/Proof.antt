@@ -8,19 +8,19 @@ use Rattle.answers.proofs.Numbers.{costs-fits}
 use Rattle.capi.proofs.crout_costs_most.Statement.{statement}
 use Rattle.capi.proofs.crout_costs_most.Tie as tie
 
-costs-most-requires : tie.Need-costs-most-requires
-costs-most-requires c κs = search rules
+costs_most-requires : tie.Need-costs_most-requires
+costs_most-requires c κs = search rules
 
-costs-answer-requires : tie.Need-costs-answer-requires
-costs-answer-requires c κs = costs-fits c.before.before.costs-most.ensures.0 (costs_small _ _ _) (omega arith)
+costs_answer-requires : tie.Need-costs_answer-requires
+costs_answer-requires c κs = costs-fits c.costs_most.ensures.0 (costs_small _ _ _) (omega arith)
 
-same_length : tie.Need-same-length
-same_length c = search rules
+shape_of-work : tie.Need-shape_of-work
+shape_of-work c = search rules
 
 returns : tie.Need-returns
 returns c =
-    let end = c.before.before.before.costs-most.ensures in
-    (c.costs-answer.ensures ∙ ap costs_number end.0, end.1)
+    let end = c.costs_most.ensures in
+    (c.costs_answer.ensures ∙ ap costs_number end.0, end.1)
 
 pub crout_costs_most_spec : {M : Type 1} → statement M
-crout_costs_most_spec = tie.close (tie.spec costs-most-requires costs-answer-requires same_length returns)
+crout_costs_most_spec = tie.close (tie.spec costs_most-requires costs_answer-requires shape_of-work returns)

@@ -8,16 +8,16 @@ use Rattle.answers.proofs.Numbers.{verdict-fits}
 use Rattle.capi.proofs.crout_count_plans.Statement.{statement}
 use Rattle.capi.proofs.crout_count_plans.Tie as tie
 
-count-plans-requires : tie.Need-count-plans-requires
-count-plans-requires c κs = search rules
+count_plans-requires : tie.Need-count_plans-requires
+count_plans-requires c κs = search rules
 
-verdict-answer-requires : tie.Need-verdict-answer-requires
-verdict-answer-requires c κs = verdict-fits c.count-plans.ensures.0 (countable_small _) (omega arith)
+verdict_answer-requires : tie.Need-verdict_answer-requires
+verdict_answer-requires c κs = verdict-fits c.count_plans.ensures.0 (countable_small _) (omega arith)
 
 returns : tie.Need-returns
 returns c =
-    let end = c.before.count-plans.ensures in
-    (c.verdict-answer.ensures ∙ ap verdict_number end.0, end.1)
+    let end = c.count_plans.ensures in
+    (c.verdict_answer.ensures ∙ ap verdict_number end.0, end.1)
 
-pub crout_count-plans_spec : {M : Type 1} → statement M
-crout_count-plans_spec = tie.close (tie.spec count-plans-requires verdict-answer-requires returns)
+pub crout_count_plans_spec : {M : Type 1} → statement M
+crout_count_plans_spec = tie.close (tie.spec count_plans-requires verdict_answer-requires returns)

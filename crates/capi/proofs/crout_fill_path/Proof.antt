@@ -8,24 +8,24 @@ use Rattle.answers.proofs.Numbers.{verdict-fits}
 use Rattle.capi.proofs.crout_fill_path.Statement.{statement}
 use Rattle.capi.proofs.crout_fill_path.Tie as tie
 
-fill-path-requires : tie.Need-fill-path-requires
-fill-path-requires c κs = search rules
+fill_path-requires : tie.Need-fill_path-requires
+fill_path-requires c κs = search rules
 
-path-answer-requires : tie.Need-path-answer-requires
-path-answer-requires c κs = verdict-fits (sym c.before.before.before.before.before.fill-path.ensures.0.decided) (tracing_small _ _ _ _ _ _) (omega arith)
+path_answer-requires : tie.Need-path_answer-requires
+path_answer-requires c κs = verdict-fits (sym c.fill_path.ensures.0.decided) (tracing_small _ _ _ _ _ _) (omega arith)
 
-same_length : tie.Need-same-length
-same_length c = search rules
+shape_of-work : tie.Need-shape_of-work
+shape_of-work c = search rules
 
-same-length-2 : tie.Need-same-length-2
-same-length-2 c = search rules
+shape_of-list : tie.Need-shape_of-list
+shape_of-list c = search rules
 
 returns : tie.Need-returns
 returns c =
-    let end = c.before.before.before.before.before.before.fill-path.ensures in
-    let answered = c.path-answer.ensures in
+    let end = c.fill_path.ensures in
+    let answered = c.path_answer.ensures in
     (answered.0 ∙ ap verdict_number (sym end.0.decided), (end.1, record { answer = _; traces = end.0; told = answered.1 }))
 
 pub crout_fill_path_spec : {M : Type 1} → statement M
 crout_fill_path_spec =
-    tie.close (tie.spec fill-path-requires path-answer-requires same_length same-length-2 returns)
+    tie.close (tie.spec fill_path-requires path_answer-requires shape_of-work shape_of-list returns)

@@ -10,21 +10,21 @@ use Rattle.capi.proofs.crout_order.Tie as tie
 order-requires : tie.Need-order-requires
 order-requires c κs = search rules
 
-order-answer-requires : tie.Need-order-answer-requires
-order-answer-requires c κs = renumbering_fits c.before.before.before.before.before.order.ensures.0 (renumbers_small _ _ _ _ _) (omega arith)
+order_answer-requires : tie.Need-order_answer-requires
+order_answer-requires c κs = renumbering_fits c.order.ensures.0 (renumbers_small _ _ _ _ _) (omega arith)
 
-same_length : tie.Need-same-length
-same_length c = search rules
+shape_of-work : tie.Need-shape_of-work
+shape_of-work c = search rules
 
-same-length-2 : tie.Need-same-length-2
-same-length-2 c = search rules
+shape_of-numbering : tie.Need-shape_of-numbering
+shape_of-numbering c = search rules
 
 returns : tie.Need-returns
 returns c =
-    let call = c.before.before.before.before.before.before.order in
-    let numbers = carried renumbering_number renumbering_numbers call.ensures.0 c.order-answer.ensures in
+    let call = c.order in
+    let numbers = carried renumbering_number renumbering_numbers call.ensures.0 c.order_answer.ensures in
     (numbers.0, (call.ensures.1.0, (call.ensures.1.1, numbers.1)))
 
 pub crout_order_spec : {M : Type 1} → statement M
 crout_order_spec =
-    tie.close (tie.spec order-requires order-answer-requires same_length same-length-2 returns)
+    tie.close (tie.spec order-requires order_answer-requires shape_of-work shape_of-numbering returns)

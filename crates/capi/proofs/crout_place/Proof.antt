@@ -12,34 +12,34 @@ use Rattle.capi.proofs.crout_place.Tie as tie
 place-requires : tie.Need-place-requires
 place-requires c κs = search rules
 
-enum-known-i : tie.Need-enum-known-i
-enum-known-i c = search rules
+enum_known-i : tie.Need-enum_known-i
+enum_known-i c = search rules
 
-found : (c : tie.After-known-told) → let a = c.before.before.before.before.args in
-    at (c.before.i.given.0.0, c.before.i.given.0.1.0) ≡ sought a.n a.label
-found c = sym (ap sought_of c.before.i.given.1) ∙ c.before.before.before.place.ensures
+found : (c : tie.In-At) → let a = c.args in
+    at (c.i-1.given.0.0, c.i-1.given.0.1.0) ≡ sought a.n a.label
+found c = sym (ap sought_of c.i-1.given.1) ∙ c.place.ensures
 
-small : (c : tie.After-known-told) → Small (at (c.before.i.given.0.0, c.before.i.given.0.1.0))
+small : (c : tie.In-At) → Small (at (c.i-1.given.0.0, c.i-1.given.0.1.0))
 small c = subst Small (sym (found c)) (sought_small _ _)
 
-mul-result : tie.Need-overflow-mul-result
-mul-result c = omega (arith, small c)
+overflow_mul-result : tie.Need-overflow_mul-result
+overflow_mul-result c = omega (arith, small c)
 
-add-result : tie.Need-overflow-add-result
-add-result c = omega (arith, small c)
+overflow_add-result : tie.Need-overflow_add-result
+overflow_add-result c = omega (arith, small c)
 
-enum_told : tie.Need-enum-told
-enum_told c = search rules
+enum_told-1 : tie.Need-enum_told-1
+enum_told-1 c = search rules
 
-returns : tie.Need-returns
+returns-in-At : tie.Need-returns-in-At
 unfolding place_number
-returns c = ap sought_number (found c)
+returns-in-At c = ap sought_number (found c)
 
-returns-2 : tie.Need-returns-2
+returns-in-Outside : tie.Need-returns-in-Outside
 unfolding place_number
-returns-2 c = ap sought_number (sym (ap sought_of c.enum_told.given.1) ∙ c.before.before.place.ensures)
+returns-in-Outside c = ap sought_number (sym (ap sought_of c.enum_told-1.given.1) ∙ c.place.ensures)
 
 pub crout_place_spec : {M : Type 1} → statement M
 crout_place_spec =
     tie.close
-    (tie.spec place-requires enum-known-i mul-result add-result enum_told returns returns-2)
+    (tie.spec place-requires enum_known-i overflow_mul-result overflow_add-result enum_told-1 returns-in-At returns-in-Outside)

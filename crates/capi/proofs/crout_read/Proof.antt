@@ -7,20 +7,20 @@ use Rattle.answers.proofs.Numbers.{carried, filed-fits}
 use Rattle.capi.proofs.crout_read.Statement.{statement}
 use Rattle.capi.proofs.crout_read.Tie as tie
 
-read-file-requires : tie.Need-read-file-requires
-read-file-requires c κs = search rules
+read_file-requires : tie.Need-read_file-requires
+read_file-requires c κs = search rules
 
-file-answer-requires : tie.Need-file-answer-requires
-file-answer-requires c κs = filed-fits c.before.before.before.read-file.ensures.0 (reads_small _ _) (omega arith)
+file_answer-requires : tie.Need-file_answer-requires
+file_answer-requires c κs = filed-fits c.read_file.ensures.0 (reads_small _ _) (omega arith)
 
-same_length : tie.Need-same-length
-same_length c = search rules
+shape_of-words : tie.Need-shape_of-words
+shape_of-words c = search rules
 
 returns : tie.Need-returns
 returns c =
-    let call = c.before.before.before.before.read-file in
-    let numbers = carried filed_number filed_numbers call.ensures.0 c.file-answer.ensures in
+    let call = c.read_file in
+    let numbers = carried filed_number filed_numbers call.ensures.0 c.file_answer.ensures in
     (numbers.0, (call.ensures.1, numbers.1))
 
 pub crout_read_spec : {M : Type 1} → statement M
-crout_read_spec = tie.close (tie.spec read-file-requires file-answer-requires same_length returns)
+crout_read_spec = tie.close (tie.spec read_file-requires file_answer-requires shape_of-words returns)

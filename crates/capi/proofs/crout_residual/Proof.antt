@@ -11,16 +11,16 @@ use Rattle.capi.proofs.crout_residual.Tie as tie
 residual-requires : tie.Need-residual-requires
 residual-requires c κs = search rules
 
-verdict-answer-requires : tie.Need-verdict-answer-requires
-verdict-answer-requires c κs = verdict-fits c.before.before.residual.ensures.0 (measuring_small _ _ _ _ _ _) (omega arith)
+verdict_answer-requires : tie.Need-verdict_answer-requires
+verdict_answer-requires c κs = verdict-fits c.residual.ensures.0 (measuring_small _ _ _ _ _ _) (omega arith)
 
-same_length : tie.Need-same-length
-same_length c = search rules
+shape_of-words : tie.Need-shape_of-words
+shape_of-words c = search rules
 
 returns : tie.Need-returns
 returns c =
-    let end = c.before.before.before.residual.ensures in
-    (c.verdict-answer.ensures ∙ ap verdict_number end.0, end.1)
+    let end = c.residual.ensures in
+    (c.verdict_answer.ensures ∙ ap verdict_number end.0, end.1)
 
 pub crout_residual_spec : {M : Type 1} → statement M
-crout_residual_spec = tie.close (tie.spec residual-requires verdict-answer-requires same_length returns)
+crout_residual_spec = tie.close (tie.spec residual-requires verdict_answer-requires shape_of-words returns)

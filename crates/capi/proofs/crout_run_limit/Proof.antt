@@ -8,7 +8,7 @@ use Rattle.capi.proofs.crout_run_limit.Statement.{statement}
 use Rattle.capi.proofs.crout_run_limit.Tie as tie
 
 -- Places of the code: after the run, with the entry before it.
-abbrev called : tie.After-limit-answer-arg → tie.After-run
+abbrev called : tie.After-limit_answer-arg-1 → tie.After-run
 called c = c.before.before.before.before.before.before.before
 
 abbrev entry : tie.After-run → tie.Start
@@ -17,25 +17,25 @@ entry c = c.before.before.before.before.before.before.before.before.before.befor
 run-requires : tie.Need-run-requires
 run-requires c κs = search rules
 
-limit-answer-requires : tie.Need-limit-answer-requires
-limit-answer-requires c κs =
-    reply-fits (called c).run.ensures.0 (ran_small _ _ _ _ _ _ _) (omega (arith, (entry (called c)).well-formed))
+limit_answer-requires : tie.Need-limit_answer-requires
+limit_answer-requires c κs =
+    reply-fits (called c).run.ensures.0 (ran_small _ _ _ _ _ _ _) (omega (arith, (entry (called c)).well_formed))
 
-same_length : tie.Need-same-length
-same_length c = search rules
+shape_of-c : tie.Need-shape_of-c
+shape_of-c c = search rules
 
-same-length-2 : tie.Need-same-length-2
-same-length-2 c = search rules
+shape_of-y : tie.Need-shape_of-y
+shape_of-y c = search rules
 
-same-length-3 : tie.Need-same-length-3
-same-length-3 c = search rules
+shape_of-x : tie.Need-shape_of-x
+shape_of-x c = search rules
 
 returns : tie.Need-returns
 returns c =
     let end = (called c.before).run.ensures in
-    (carried reply_number limit_numbers end.0 c.limit-answer.ensures, end.1)
+    (carried reply_number limit_numbers end.0 c.limit_answer.ensures, end.1)
 
 pub crout_run_limit_spec : {M : Type 1} → statement M
 crout_run_limit_spec =
     tie.close
-    (tie.spec run-requires limit-answer-requires same_length same-length-2 same-length-3 returns)
+    (tie.spec run-requires limit_answer-requires shape_of-c shape_of-y shape_of-x returns)

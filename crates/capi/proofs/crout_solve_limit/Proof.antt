@@ -8,7 +8,7 @@ use Rattle.capi.proofs.crout_solve_limit.Statement.{statement}
 use Rattle.capi.proofs.crout_solve_limit.Tie as tie
 
 -- Places of the code: after solving, with the entry before it.
-abbrev called : tie.After-limit-answer-arg → tie.After-solve
+abbrev called : tie.After-limit_answer-arg-1 → tie.After-solve
 called c = c.before.before.before.before.before.before.before.before.before.before.before
 
 abbrev entry : tie.After-solve → tie.Start
@@ -17,39 +17,39 @@ entry c = c.before.before.before.before.before.before.before.before.before.befor
 solve-requires : tie.Need-solve-requires
 solve-requires c κs = search rules
 
-limit-answer-requires : tie.Need-limit-answer-requires
-limit-answer-requires c κs =
-    reply-fits (called c).solve.ensures.1.0 (replied_small _ _ _ _ _ _ _ _ _ _) (omega (arith, (entry (called c)).well-formed))
+limit_answer-requires : tie.Need-limit_answer-requires
+limit_answer-requires c κs =
+    reply-fits (called c).solve.ensures.1.0 (replied_small _ _ _ _ _ _ _ _ _ _) (omega (arith, (entry (called c)).well_formed))
 
-same_length : tie.Need-same-length
-same_length c = search rules
+shape_of-work : tie.Need-shape_of-work
+shape_of-work c = search rules
 
-same-length-2 : tie.Need-same-length-2
-same-length-2 c = search rules
+shape_of-words : tie.Need-shape_of-words
+shape_of-words c = search rules
 
-same-length-3 : tie.Need-same-length-3
-same-length-3 c = search rules
+shape_of-c : tie.Need-shape_of-c
+shape_of-c c = search rules
 
-same-length-4 : tie.Need-same-length-4
-same-length-4 c = search rules
+shape_of-y : tie.Need-shape_of-y
+shape_of-y c = search rules
 
-same-length-5 : tie.Need-same-length-5
-same-length-5 c = search rules
+shape_of-x : tie.Need-shape_of-x
+shape_of-x c = search rules
 
 returns : tie.Need-returns
 returns c =
     let end = (called c.before).solve.ensures.1 in
-    (carried reply_number limit_numbers end.0 c.limit-answer.ensures, end.1)
+    (carried reply_number limit_numbers end.0 c.limit_answer.ensures, end.1)
 
 pub crout_solve_limit_spec : {M : Type 1} → statement M
 crout_solve_limit_spec =
     tie.close
     (tie.spec
     solve-requires
-    limit-answer-requires
-    same_length
-    same-length-2
-    same-length-3
-    same-length-4
-    same-length-5
+    limit_answer-requires
+    shape_of-work
+    shape_of-words
+    shape_of-c
+    shape_of-y
+    shape_of-x
     returns)

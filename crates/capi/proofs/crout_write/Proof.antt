@@ -7,20 +7,20 @@ use Rattle.answers.proofs.Numbers.{carried, filed-fits}
 use Rattle.capi.proofs.crout_write.Statement.{statement}
 use Rattle.capi.proofs.crout_write.Tie as tie
 
-write-file-requires : tie.Need-write-file-requires
-write-file-requires c κs = search rules
+write_file-requires : tie.Need-write_file-requires
+write_file-requires c κs = search rules
 
-file-answer-requires : tie.Need-file-answer-requires
-file-answer-requires c κs = filed-fits c.before.before.before.write-file.ensures.0 (writes_small _ _) (omega arith)
+file_answer-requires : tie.Need-file_answer-requires
+file_answer-requires c κs = filed-fits c.write_file.ensures.0 (writes_small _ _) (omega arith)
 
-same_length : tie.Need-same-length
-same_length c = search rules
+shape_of-bytes : tie.Need-shape_of-bytes
+shape_of-bytes c = search rules
 
 returns : tie.Need-returns
 returns c =
-    let call = c.before.before.before.before.write-file in
-    let numbers = carried filed_number filed_numbers call.ensures.0 c.file-answer.ensures in
+    let call = c.write_file in
+    let numbers = carried filed_number filed_numbers call.ensures.0 c.file_answer.ensures in
     (numbers.0, (call.ensures.1, numbers.1))
 
 pub crout_write_spec : {M : Type 1} → statement M
-crout_write_spec = tie.close (tie.spec write-file-requires file-answer-requires same_length returns)
+crout_write_spec = tie.close (tie.spec write_file-requires file_answer-requires shape_of-bytes returns)

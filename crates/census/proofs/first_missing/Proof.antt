@@ -10,29 +10,29 @@ use Rattle.census.proofs.first_missing.Statement.{statement}
 use Rattle.census.proofs.first_missing.Tie as tie
 
 -- Places of the code: where the set is marked, seen from before its places are filled; and the entry before that.
-abbrev marked-at : tie.After-columns → tie.After-mark-set
+abbrev marked-at : tie.After-columns-1 → tie.After-mark_set
 marked-at c = c.before.before.before.before
 
-abbrev entry : tie.After-mark-set → tie.Start
+abbrev entry : tie.After-mark_set → tie.Start
 entry c = c.before.before
 
-slice-aggregate-mark-set : tie.Need-slice-aggregate-mark-set
-slice-aggregate-mark-set c = search rules
+slice_bounds-mark_set-end : tie.Need-slice_bounds-mark_set-end
+slice_bounds-mark_set-end c = search rules
 
-mark-set-requires : tie.Need-mark-set-requires
-mark-set-requires c κs = search rules
+mark_set-requires : tie.Need-mark_set-requires
+mark_set-requires c κs = search rules
 
-slice-aggregate-fill : tie.Need-slice-aggregate-fill
-slice-aggregate-fill c = search rules
+slice_bounds-fill-end : tie.Need-slice_bounds-fill-end
+slice_bounds-fill-end c = search rules
 
-slice-aggregate-fill-2 : tie.Need-slice-aggregate-fill-2
-slice-aggregate-fill-2 c = search rules
+slice_bounds-fill-end-2 : tie.Need-slice_bounds-fill-end-2
+slice_bounds-fill-end-2 c = search rules
 
-slice-aggregate-fill-3 : tie.Need-slice-aggregate-fill-3
-slice-aggregate-fill-3 c = search rules
+slice_bounds-fill-end-3 : tie.Need-slice_bounds-fill-end-3
+slice_bounds-fill-end-3 c = search rules
 
-fill-requires : tie.Need-fill-requires
-fill-requires c κs =
+fill-filled-requires : tie.Need-fill-filled-requires
+fill-filled-requires c κs =
     let m = marked-at c in
     let e = entry m in
     let order = within-range e.args.n 4 e.pre in
@@ -44,16 +44,16 @@ returns c =
     let f = c.before.before.before in
     let m = marked-at f.before in
     let e = entry m in
-    (f.fill.ensures _ (set-marks e.args.n e.args.set e.pre m.mark_set.ensures)).missing_is
+    (f.fill-filled.ensures _ (set-marks e.args.n e.args.set e.pre m.mark_set.ensures)).missing_is
 
-pub first-missing_spec : {M : Type 1} → statement M
-first-missing_spec =
+pub first_missing_spec : {M : Type 1} → statement M
+first_missing_spec =
     tie.close
     (tie.spec
-    slice-aggregate-mark-set
-    mark-set-requires
-    slice-aggregate-fill
-    slice-aggregate-fill-2
-    slice-aggregate-fill-3
-    fill-requires
+    slice_bounds-mark_set-end
+    mark_set-requires
+    slice_bounds-fill-end
+    slice_bounds-fill-end-2
+    slice_bounds-fill-end-3
+    fill-filled-requires
     returns)

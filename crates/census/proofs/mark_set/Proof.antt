@@ -12,45 +12,45 @@ use Rattle.model.proofs.Sets.{digits, digits-none, digits_more}
 use Rattle.census.proofs.mark_set.Statement.{statement}
 use Rattle.census.proofs.mark_set.Tie as tie
 
-abbrev invariant-loop : tie.invariant-loop
-invariant-loop b work₀ left₀ k₀ work left k = (k ≤ length work) × (length work ≡ length work₀) × (left ≡ b / 2 ^ k) × (take k work ≡ digits b k)
+abbrev invariant-loop-k : tie.invariant-loop-k
+invariant-loop-k b work₀ left₀ k₀ work left k = (k ≤ length work) × (length work ≡ length work₀) × (left ≡ b / 2 ^ k) × (take k work ≡ digits b k)
 
-abbrev decreases-loop : tie.decreases-loop
-decreases-loop b work₀ left₀ k₀ work left k = length work₀ - k
+abbrev decreases-loop-k : tie.decreases-loop-k
+decreases-loop-k b work₀ left₀ k₀ work left k = length work₀ - k
 
-loop-holds : tie.Need-loop-init invariant-loop decreases-loop
+loop-holds : tie.Need-loop-k-init invariant-loop-k decreases-loop-k
 loop-holds c = (omega arith, refl, sym (div-one _), digits-none _)
 
-mul-work : tie.Need-overflow-mul-work invariant-loop decreases-loop
-mul-work c = search rules
+offset_bounds-work-k : tie.Need-offset_bounds-work-k invariant-loop-k decreases-loop-k
+offset_bounds-work-k c = search rules
 
-slice-write-work : tie.Need-slice-write-work invariant-loop decreases-loop
-slice-write-work c = search rules
+bounds-work-k : tie.Need-bounds-work-k invariant-loop-k decreases-loop-k
+bounds-work-k c = search rules
 
-add-k : tie.Need-overflow-add-k invariant-loop decreases-loop
-add-k c = search rules
+overflow_add-k : tie.Need-overflow_add-k invariant-loop-k decreases-loop-k
+overflow_add-k c = search rules
 
-loop-less : tie.Need-loop-smaller invariant-loop decreases-loop
-loop-less c = omega (arith, c.before.loop.invariant.1)
+loop-less : tie.Need-loop-k-smaller invariant-loop-k decreases-loop-k
+loop-less c = omega (arith, c.loop-k.invariant.1)
 
-loop-again : tie.Need-loop-preserved invariant-loop decreases-loop
+loop-again : tie.Need-loop-k-preserved invariant-loop-k decreases-loop-k
 loop-again c =
-    let b = c.before.before.args.set in
-    let work = c.before.loop.work in
-    let k = c.before.loop.k in
-    let i = c.before.loop.invariant in
-    let written = ap (λ n. take n (set work k (c.before.loop.left % 2))) (add-one k) ∙ take-suc-set work k (c.before.loop.left % 2) (omega arith) in
+    let b = c.args.set in
+    let work = c.loop-k.work in
+    let k = c.loop-k.k in
+    let i = c.loop-k.invariant in
+    let written = ap (λ n. take n (set work k (c.loop-k.left % 2))) (add-one k) ∙ take-suc-set work k (c.loop-k.left % 2) (omega arith) in
     (simp length-set (omega arith), simp length-set i.1, rw i.2 (shr-shr b k 1), written ∙ rw (i.3, i.2) (digits_more b k))
 
-same_length : tie.Need-same-length invariant-loop decreases-loop
-same_length c = c.before.loop.invariant.1
+shape_of-work : tie.Need-shape_of-work invariant-loop-k decreases-loop-k
+shape_of-work c = c.loop-k.invariant.1
 
-returns : tie.Need-returns invariant-loop decreases-loop
+returns : tie.Need-returns invariant-loop-k decreases-loop-k
 returns c =
-    let k = c.before.loop.k in
-    let i = c.before.loop.invariant in
-    let all : k ≡ length c.before.before.args.work.now = omega (arith, i.1) in
-    sym (take_all k c.before.loop.work (omega arith)) ∙ i.3 ∙ ap (digits c.before.before.args.set) all
+    let k = c.loop-k.k in
+    let i = c.loop-k.invariant in
+    let all : k ≡ length c.args.work.now = omega (arith, i.1) in
+    sym (take_all k c.loop-k.work (omega arith)) ∙ i.3 ∙ ap (digits c.args.set) all
 
 pub mark_set_spec : {M : Type 1} → statement M
-mark_set_spec = tie.close (tie.spec invariant-loop decreases-loop loop-holds mul-work slice-write-work add-k loop-less loop-again same_length returns)
+mark_set_spec = tie.close (tie.spec invariant-loop-k decreases-loop-k loop-holds offset_bounds-work-k bounds-work-k overflow_add-k loop-less loop-again shape_of-work returns)

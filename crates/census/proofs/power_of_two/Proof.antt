@@ -8,37 +8,37 @@ use lib.Pow.{pow-lt}
 use Rattle.census.proofs.power_of_two.Statement.{statement}
 use Rattle.census.proofs.power_of_two.Tie as tie
 
-abbrev invariant-loop : tie.invariant-loop
-invariant-loop d power₀ k₀ power k = (k ≤ d) × (power ≡ 2 ^ k)
+abbrev invariant-loop-k : tie.invariant-loop-k
+invariant-loop-k d power₀ k₀ power k = (k ≤ d) × (power ≡ 2 ^ k)
 
-abbrev decreases-loop : tie.decreases-loop
-decreases-loop d power₀ k₀ power k = d - k
+abbrev decreases-loop-k : tie.decreases-loop-k
+decreases-loop-k d power₀ k₀ power k = d - k
 
 -- it is small before it is doubled
-small : (c : tie.In-loop invariant-loop decreases-loop) → c.before.loop.power < 65536
-small c = rw c.before.loop.invariant.1 (pow-lt {i = c.before.loop.k} {j = 16} (omega arith))
+small : (c : tie.In-loop-k invariant-loop-k decreases-loop-k) → c.loop-k.power < 65536
+small c = rw c.loop-k.invariant.1 (pow-lt {i = c.loop-k.k} {j = 16} (omega arith))
 
-loop-holds : tie.Need-loop-init invariant-loop decreases-loop
+loop-holds : tie.Need-loop-k-init invariant-loop-k decreases-loop-k
 loop-holds c = (omega arith, refl)
 
-mul_power : tie.Need-overflow-mul-power invariant-loop decreases-loop
-mul_power c = omega (arith, small c)
+overflow_mul-power : tie.Need-overflow_mul-power invariant-loop-k decreases-loop-k
+overflow_mul-power c = omega (arith, small c)
 
-add-k : tie.Need-overflow-add-k invariant-loop decreases-loop
-add-k c = omega arith
+overflow_add-k : tie.Need-overflow_add-k invariant-loop-k decreases-loop-k
+overflow_add-k c = omega arith
 
-loop-less : tie.Need-loop-smaller invariant-loop decreases-loop
+loop-less : tie.Need-loop-k-smaller invariant-loop-k decreases-loop-k
 loop-less c = omega arith
 
-loop-again : tie.Need-loop-preserved invariant-loop decreases-loop
+loop-again : tie.Need-loop-k-preserved invariant-loop-k decreases-loop-k
 loop-again c =
-    let k = c.before.loop.k in
-    (omega arith, rw (c.before.loop.invariant.1, add-one k) (sym (pow-suc 2 k)))
+    let k = c.loop-k.k in
+    (omega arith, rw (c.loop-k.invariant.1, add-one k) (sym (pow-suc 2 k)))
 
-returns : tie.Need-returns invariant-loop decreases-loop
+returns : tie.Need-returns invariant-loop-k decreases-loop-k
 returns c =
-    let all : c.before.loop.k ≡ c.before.before.args.d = omega arith in
-    c.before.loop.invariant.1 ∙ ap (λ k. 2 ^ k) all
+    let all : c.loop-k.k ≡ c.args.d = omega arith in
+    c.loop-k.invariant.1 ∙ ap (λ k. 2 ^ k) all
 
 pub power_of_two_spec : {M : Type 1} → statement M
-power_of_two_spec = tie.close (tie.spec invariant-loop decreases-loop loop-holds mul_power add-k loop-less loop-again returns)
+power_of_two_spec = tie.close (tie.spec invariant-loop-k decreases-loop-k loop-holds overflow_mul-power overflow_add-k loop-less loop-again returns)

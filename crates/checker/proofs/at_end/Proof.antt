@@ -9,11 +9,11 @@ use Rattle.checker.proofs.at_end.Tie as tie
 complete-requires : tie.Need-complete-requires
 complete-requires c κs = search rules
 
-returns : tie.Need-returns
-returns c = ap (λ b. cond b fine (refusal 13 0)) (sym c.if1.true ∙ c.before.complete.ensures)
+returns-then-complete : tie.Need-returns-then-complete
+returns-then-complete c = ap (λ b. cond b fine (refusal 13 0)) (sym c.if-complete.true ∙ c.complete.ensures)
 
-returns-2 : tie.Need-returns-2
-returns-2 c = ap (λ b. cond b fine (refusal 13 0)) (sym c.if1.false ∙ c.before.complete.ensures)
+returns-else-complete : tie.Need-returns-else-complete
+returns-else-complete c = ap (λ b. cond b fine (refusal 13 0)) (sym c.if-complete.false ∙ c.complete.ensures)
 
-pub at-end_spec : {M : Type 1} → statement M
-at-end_spec = tie.close (tie.spec complete-requires returns returns-2)
+pub at_end_spec : {M : Type 1} → statement M
+at_end_spec = tie.close (tie.spec complete-requires returns-then-complete returns-else-complete)

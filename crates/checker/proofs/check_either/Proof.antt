@@ -14,66 +14,66 @@ use Rattle.checker.proofs.check_either.Statement.{statement}
 use Rattle.checker.proofs.check_either.Tie as tie
 
 -- Places of the code: the entry, seen from where 7 is tested, and where 7 is passed, seen from where 8 is.
-abbrev entry : tie.After-count-fits → tie.Start
+abbrev entry : tie.After-count_fits → tie.Start
 entry c = c.before.before.before
 
-abbrev counted : tie.After-head-of → tie.Else1
+abbrev counted : tie.After-head_of-h → tie.Else-not-count_fits
 counted c = c.before.before
 
 abbrev program : tie.Start → List ℕ
 program s = content s.args.filed s.args.words.now s.args.bytes.now
 
-count-fits-requires : tie.Need-count-fits-requires
-count-fits-requires c κs = search rules
+count_fits-requires : tie.Need-count_fits-requires
+count_fits-requires c κs = search rules
 
 -- 7, as it was tested
-seven : (c : tie.After-count-fits) → count_fits (length (program (entry c))) ≡ c.count-fits.result
-seven c = ap count_fits (sym (entry c).requires) ∙ sym c.count-fits.ensures
+seven : (c : tie.After-count_fits) → count_fits (length (program (entry c))) ≡ c.count_fits.result
+seven c = ap count_fits (sym (entry c).requires) ∙ sym c.count_fits.ensures
 
-fits : (c : tie.Else1) → count_fits (length (program (entry c.before))) ≡ true
-fits c = seven c.before ∙ not-false _ c.if1.false
+fits : (c : tie.Else-not-count_fits) → count_fits (length (program (entry c.before))) ≡ true
+fits c = seven c.before ∙ not-false _ c.if-not-count_fits.false
 
-returns : tie.Need-returns
-returns c = refused_7 _ (program (entry c.before)) (seven c.before ∙ not-true _ c.if1.true)
+returns-then-not-count_fits : tie.Need-returns-then-not-count_fits
+returns-then-not-count_fits c = refused_7 _ (program (entry c.before)) (seven c.before ∙ not-true _ c.if-not-count_fits.true)
 
-record-at-requires : tie.Need-record-at-requires
-record-at-requires c κs = omega (arith, count_true (length (program (entry c.before))) (fits c))
+record_at-requires : tie.Need-record_at-requires
+record_at-requires c κs = omega (arith, count_true (length (program (entry c.before))) (fits c))
 
-head-of-requires : tie.Need-head-of-requires
-head-of-requires c κs = search rules
+head_of-h-requires : tie.Need-head_of-h-requires
+head_of-h-requires c κs = search rules
 
 -- record 0, as it was read
-head : (c : tie.After-head-of) → c.head_of.result ≡ head_of (program (entry (counted c).before))
-head c = c.head_of.ensures ∙ ap (λ r. record { order = r.kind; coefficients = r.p; slots = r.q }) c.before.record-at.ensures
+head : (c : tie.After-head_of-h) → c.head_of-h.result ≡ head_of (program (entry (counted c).before))
+head c = c.head_of-h.ensures ∙ ap (λ r. record { order = r.kind; coefficients = r.p; slots = r.q }) c.record_at.ensures
 
-head-fits-requires : tie.Need-head-fits-requires
-head-fits-requires c κs = search rules
+head_fits-requires : tie.Need-head_fits-requires
+head_fits-requires c κs = search rules
 
-returns-2 : tie.Need-returns-2
-returns-2 c =
+returns-then-not-head_fits : tie.Need-returns-then-not-head_fits
+returns-then-not-head_fits c =
     let h = c.before.before in
-    refused_8 _ _ _ (head h) (fits (counted h)) (sym c.before.head-fits.ensures ∙ not-true _ c.if2.true)
+    refused_8 _ _ _ (head h) (fits (counted h)) (sym c.head_fits.ensures ∙ not-true _ c.if-not-head_fits.true)
 
 follow-requires : tie.Need-follow-requires
 follow-requires c κs =
     let seen = counted c.before.before in
     omega (arith, count_true (length (program (entry seen.before))) (fits seen))
 
-returns-3 : tie.Need-returns-3
+returns-3 : tie.Need-returns
 returns-3 c =
     let h = c.before.before.before in
     c.follow.ensures
-    ∙ chain-checked _ _ _ (head h) (fits (counted h)) (sym c.before.before.head-fits.ensures ∙ not-false _ c.before.if2.false)
+    ∙ chain-checked _ _ _ (head h) (fits (counted h)) (sym c.head_fits.ensures ∙ not-false _ c.if-not-head_fits.false)
 
 pub check_either_spec : {M : Type 1} → statement M
 check_either_spec =
     tie.close
     (tie.spec
-    count-fits-requires
-    returns
-    record-at-requires
-    head-of-requires
-    head-fits-requires
-    returns-2
+    count_fits-requires
+    returns-then-not-count_fits
+    record_at-requires
+    head_of-h-requires
+    head_fits-requires
+    returns-then-not-head_fits
     follow-requires
     returns-3)

@@ -14,140 +14,140 @@ use Rattle.checker.proofs.Turns.{CheckAfter, Facing, Turn, check-begins, check-e
 use Rattle.checker.proofs.follow.Statement.{statement}
 use Rattle.checker.proofs.follow.Tie as tie
 
-abbrev invariant-loop2 : tie.invariant-loop2
-invariant-loop2 words bytes filed h records g₀ k₀ next₀ g k next = (k₀ ≤ k) × (next < records) × Facing h (content filed words bytes) g k next
+abbrev invariant-loop-h-2 : tie.invariant-loop-h-2
+invariant-loop-h-2 words bytes filed h records g₀ k₀ next₀ g k next = (k₀ ≤ k) × (next < records) × Facing h (content filed words bytes) g k next
 
-abbrev decreases-loop2 : tie.decreases-loop2
-decreases-loop2 words bytes filed h records g₀ k₀ next₀ g k next = records - next
+abbrev decreases-loop-h-2 : tie.decreases-loop-h-2
+decreases-loop-h-2 words bytes filed h records g₀ k₀ next₀ g k next = records - next
 
-abbrev invariant-loop : tie.invariant-loop
-invariant-loop words bytes filed h records g₀ k₀ g k = CheckAfter h (content filed words bytes) g k
+abbrev invariant-loop-h : tie.invariant-loop-h
+invariant-loop-h words bytes filed h records g₀ k₀ g k = CheckAfter h (content filed words bytes) g k
 
-abbrev decreases-loop : tie.decreases-loop
-decreases-loop words bytes filed h records g₀ k₀ g k = records - k
+abbrev decreases-loop-h : tie.decreases-loop-h
+decreases-loop-h words bytes filed h records g₀ k₀ g k = records - k
 
 -- Places of the code: where the inner loop has read a record, with the entry before it, and where the progress after the record is known.
 abbrev Reading : Type 0
-Reading = tie.After-record-at2 invariant-loop2 decreases-loop2 invariant-loop decreases-loop
+Reading = tie.After-record_at-r invariant-loop-h-2 decreases-loop-h-2 invariant-loop-h decreases-loop-h
 
-abbrev entry : Reading → tie.Start invariant-loop2 decreases-loop2 invariant-loop decreases-loop
+abbrev entry : Reading → tie.Start invariant-loop-h-2 decreases-loop-h-2 invariant-loop-h decreases-loop-h
 entry c = c.before.before.before.before.before.before.before.before.before.before.before
 
-abbrev reading : tie.After-onward invariant-loop2 decreases-loop2 invariant-loop decreases-loop → Reading
+abbrev reading : tie.After-onward-g invariant-loop-h-2 decreases-loop-h-2 invariant-loop-h decreases-loop-h → Reading
 reading c = c.before.before.before
 
 -- the program's words
-abbrev program : tie.Start invariant-loop2 decreases-loop2 invariant-loop decreases-loop → List ℕ
+abbrev program : tie.Start invariant-loop-h-2 decreases-loop-h-2 invariant-loop-h decreases-loop-h → List ℕ
 program s = content s.args.filed s.args.words.now s.args.bytes.now
 
-begun-requires : tie.Need-begun-requires invariant-loop2 decreases-loop2 invariant-loop decreases-loop
-begun-requires c κs = search rules
+begun-g-requires : tie.Need-begun-g-requires invariant-loop-h-2 decreases-loop-h-2 invariant-loop-h decreases-loop-h
+begun-g-requires c κs = search rules
 
-loop-holds : tie.Need-loop-init invariant-loop2 decreases-loop2 invariant-loop decreases-loop
-loop-holds c = check-begins _ _ c.begun.result c.begun.ensures (omega arith)
+loop-holds : tie.Need-loop-h-init invariant-loop-h-2 decreases-loop-h-2 invariant-loop-h decreases-loop-h
+loop-holds c = check-begins _ _ c.begun-g.result c.begun-g.ensures (omega arith)
 
-record-at-requires : tie.Need-record-at-requires invariant-loop2 decreases-loop2 invariant-loop decreases-loop
-record-at-requires c κs = omega arith
+record_at-requires : tie.Need-record_at-requires invariant-loop-h-2 decreases-loop-h-2 invariant-loop-h decreases-loop-h
+record_at-requires c κs = omega arith
 
-wide-requires : tie.Need-wide-requires invariant-loop2 decreases-loop2 invariant-loop decreases-loop
-wide-requires c κs = search rules
+wide-next-requires : tie.Need-wide-next-requires invariant-loop-h-2 decreases-loop-h-2 invariant-loop-h decreases-loop-h
+wide-next-requires c κs = search rules
 
-at-end-requires : tie.Need-at-end-requires invariant-loop2 decreases-loop2 invariant-loop decreases-loop
-at-end-requires c κs = search rules
+at_end-requires : tie.Need-at_end-requires invariant-loop-h-2 decreases-loop-h-2 invariant-loop-h decreases-loop-h
+at_end-requires c κs = search rules
 
 -- the next index that record k names, as it was read
-next : (c : tie.After-wide invariant-loop2 decreases-loop2 invariant-loop decreases-loop)
-    → c.wide.result ≡ next_of (program c.before.before.before.before.before.before) c.before.before.loop.k
-next c = c.wide.ensures ∙ ap (λ r. r.next) c.before.record-at.ensures
+next : (c : tie.After-wide-next invariant-loop-h-2 decreases-loop-h-2 invariant-loop-h decreases-loop-h)
+    → c.wide-next.result ≡ next_of (program c.before.before.before.before.before.before) c.loop-h.k
+next c = c.wide-next.ensures ∙ ap (λ r. r.next) c.record_at.ensures
 
-returns : tie.Need-returns invariant-loop2 decreases-loop2 invariant-loop decreases-loop
-returns c =
-    let l = c.before.before.before.before.loop in
-    c.at-end.ensures ∙ check-ends _ _ l.g l.k l.invariant (sym (next c.before.before) ∙ c.before.if1.true)
+returns-then-next-eq0 : tie.Need-returns-then-next-eq0 invariant-loop-h-2 decreases-loop-h-2 invariant-loop-h decreases-loop-h
+returns-then-next-eq0 c =
+    let l = c.loop-h in
+    c.at_end.ensures ∙ check-ends _ _ l.g l.k l.invariant (sym (next c.before.before) ∙ c.if-next-eq0.true)
 
-may-follow-requires : tie.Need-may-follow-requires invariant-loop2 decreases-loop2 invariant-loop decreases-loop
-may-follow-requires c κs = search rules
+may_follow-requires : tie.Need-may_follow-requires invariant-loop-h-2 decreases-loop-h-2 invariant-loop-h decreases-loop-h
+may_follow-requires c κs = search rules
 
-returns-2 : tie.Need-returns-2 invariant-loop2 decreases-loop2 invariant-loop decreases-loop
-returns-2 c =
-    let l = c.before.before.before.before.before.loop in
-    check_breaks _ _ l.g l.k l.invariant _ _ (next c.before.before.before) (omega arith) c.before.before.if1.false
-    (sym c.before.may-follow.ensures ∙ not-true _ c.if2.true)
+returns-then-not-may_follow : tie.Need-returns-then-not-may_follow invariant-loop-h-2 decreases-loop-h-2 invariant-loop-h decreases-loop-h
+returns-then-not-may_follow c =
+    let l = c.loop-h in
+    check_breaks _ _ l.g l.k l.invariant _ _ (next c.before.before.before) (omega arith) c.if-next-eq0.false
+    (sym c.may_follow.ensures ∙ not-true _ c.if-not-may_follow.true)
 
-loop2-holds : tie.Need-loop2-init invariant-loop2 decreases-loop2 invariant-loop decreases-loop
+loop2-holds : tie.Need-loop-h-2-init invariant-loop-h-2 decreases-loop-h-2 invariant-loop-h decreases-loop-h
 loop2-holds c =
     let w = c.before.before.before in
-    let range = next-range _ _ _ (sym c.before.may-follow.ensures ∙ not-false _ c.if2.false) in
-    (omega arith, range.1, record { here = w.before.before.loop.invariant; is = next w; up = range.0; low = omega arith })
+    let range = next-range _ _ _ (sym c.may_follow.ensures ∙ not-false _ c.if-not-may_follow.false) in
+    (omega arith, range.1, record { here = w.loop-h.invariant; is = next w; up = range.0; low = omega arith })
 
-record-at-requires-2 : tie.Need-record-at-requires-2 invariant-loop2 decreases-loop2 invariant-loop decreases-loop
-record-at-requires-2 c κs = omega arith
+record_at-r-requires : tie.Need-record_at-r-requires invariant-loop-h-2 decreases-loop-h-2 invariant-loop-h decreases-loop-h
+record_at-r-requires c κs = omega arith
 
-add-following : tie.Need-overflow-add-following invariant-loop2 decreases-loop2 invariant-loop decreases-loop
-add-following c = omega arith
+overflow_add-following : tie.Need-overflow_add-following invariant-loop-h-2 decreases-loop-h-2 invariant-loop-h decreases-loop-h
+overflow_add-following c = omega arith
 
-is-right-requires : tie.Need-is-right-requires invariant-loop2 decreases-loop2 invariant-loop decreases-loop
-is-right-requires c κs = omega arith
+is_right-requires : tie.Need-is_right-requires invariant-loop-h-2 decreases-loop-h-2 invariant-loop-h decreases-loop-h
+is_right-requires c κs = omega arith
 
-judge-requires : tie.Need-judge-requires invariant-loop2 decreases-loop2 invariant-loop decreases-loop
+judge-requires : tie.Need-judge-requires invariant-loop-h-2 decreases-loop-h-2 invariant-loop-h decreases-loop-h
 judge-requires c κs = omega arith
 
 -- the refusal of the next record, or 0
 abbrev refusal_now : Reading → ℕ
 refusal_now c =
-    let r = c.record-at2.result in
-    refusal_of (entry c).args.h c.before.loop2.g r.kind r.p r.q
+    let r = c.record_at-r.result in
+    refusal_of (entry c).args.h c.loop-h-2.g r.kind r.p r.q
 
 -- the next record and its refusal
-turn : (c : Reading) → let l = c.before.loop2 in Turn (entry c).args.h (program (entry c)) l.g l.k l.next (refusal_now c)
+turn : (c : Reading) → let l = c.loop-h-2 in Turn (entry c).args.h (program (entry c)) l.g l.k l.next (refusal_now c)
 turn c =
-    let l = c.before.loop2 in
+    let l = c.loop-h-2 in
     let f = l.invariant.2 in
     record {
       here = f.here;
       is = f.is;
       up = f.up;
       low = f.low;
-      refusal_is = ap (λ r. refusal_of (entry c).args.h l.g r.kind r.p r.q) c.record-at2.ensures;
+      refusal_is = ap (λ r. refusal_of (entry c).args.h l.g r.kind r.p r.q) c.record_at-r.ensures;
     }
 
-returns-3 : tie.Need-returns-3 invariant-loop2 decreases-loop2 invariant-loop decreases-loop
-returns-3 c =
+returns-then-not-is_right : tie.Need-returns-then-not-is_right invariant-loop-h-2 decreases-loop-h-2 invariant-loop-h decreases-loop-h
+returns-then-not-is_right c =
     let read = c.before.before.before in
-    let wrong = sym c.before.before.is_right.ensures ∙ not-true _ c.before.if3.true in
-    ap (λ m. refusal m read.before.loop2.next) c.judge.ensures ∙ check-refuses _ _ _ _ _ _ (turn read) (eqb-false (refusal_now read) 0 wrong)
+    let wrong = sym c.is_right.ensures ∙ not-true _ c.if-not-is_right.true in
+    ap (λ m. refusal m read.loop-h-2.next) c.judge.ensures ∙ check-refuses _ _ _ _ _ _ (turn read) (eqb-false (refusal_now read) 0 wrong)
 
-onward-requires : tie.Need-onward-requires invariant-loop2 decreases-loop2 invariant-loop decreases-loop
-onward-requires c κs = omega arith
+onward-g-requires : tie.Need-onward-g-requires invariant-loop-h-2 decreases-loop-h-2 invariant-loop-h decreases-loop-h
+onward-g-requires c κs = omega arith
 
 -- after that record
-arrived : (o : tie.After-onward invariant-loop2 decreases-loop2 invariant-loop decreases-loop) → let start = entry (reading o) in
-    CheckAfter start.args.h (program start) o.onward.result (reading o).before.loop2.next
+arrived : (o : tie.After-onward-g invariant-loop-h-2 decreases-loop-h-2 invariant-loop-h decreases-loop-h) → let start = entry (reading o) in
+    CheckAfter start.args.h (program start) o.onward-g.result (reading o).before.loop2.next
 arrived o =
     let read = reading o in
-    let right = sym o.before.before.is_right.ensures ∙ not-false _ o.before.if3.false in
-    check_goes_on _ _ _ _ _ _ (turn read) (eqb-true (refusal_now read) 0 right) o.onward.result
-    (o.onward.ensures ∙ ap (λ r. onward (kind_of r.kind) r.p r.q (progress_of read.before.loop2.g)) read.record-at2.ensures)
+    let right = sym o.is_right.ensures ∙ not-false _ o.if-not-is_right.false in
+    check_goes_on _ _ _ _ _ _ (turn read) (eqb-true (refusal_now read) 0 right) o.onward-g.result
+    (o.onward-g.ensures ∙ ap (λ r. onward (kind_of r.kind) r.p r.q (progress_of read.loop-h-2.g)) read.record_at-r.ensures)
 
 nearer : (records k₀ k next : ℕ) → k₀ ≤ k → k < next → next < records → records - next < records - k₀
 nearer records k₀ k next from up low = omega arith
 
-loop-less : tie.Need-loop-smaller invariant-loop2 decreases-loop2 invariant-loop decreases-loop
+loop-less : tie.Need-loop-h-smaller-then-records-following invariant-loop-h-2 decreases-loop-h-2 invariant-loop-h decreases-loop-h
 loop-less c = let l = (reading c.before).before.loop2 in nearer _ _ _ _ l.inv.0 l.inv.2.up l.inv.1
 
-loop-again : tie.Need-loop-preserved invariant-loop2 decreases-loop2 invariant-loop decreases-loop
+loop-again : tie.Need-loop-h-preserved-then-records-following invariant-loop-h-2 decreases-loop-h-2 invariant-loop-h decreases-loop-h
 loop-again c = arrived c.before
 
-wide-requires-2 : tie.Need-wide-requires-2 invariant-loop2 decreases-loop2 invariant-loop decreases-loop
+wide-requires-2 : tie.Need-wide-requires invariant-loop-h-2 decreases-loop-h-2 invariant-loop-h decreases-loop-h
 wide-requires-2 c κs = search rules
 
-loop-less-2 : tie.Need-loop-smaller-2 invariant-loop2 decreases-loop2 invariant-loop decreases-loop
+loop-less-2 : tie.Need-loop-h-smaller invariant-loop-h-2 decreases-loop-h-2 invariant-loop-h decreases-loop-h
 loop-less-2 c = omega arith
 
-loop-again-2 : tie.Need-loop-preserved-2 invariant-loop2 decreases-loop2 invariant-loop decreases-loop
+loop-again-2 : tie.Need-loop-h-preserved invariant-loop-h-2 decreases-loop-h-2 invariant-loop-h decreases-loop-h
 loop-again-2 c = arrived c.before.before.before
 
-loop2-less : tie.Need-loop2-smaller invariant-loop2 decreases-loop2 invariant-loop decreases-loop
+loop2-less : tie.Need-loop-h-2-smaller invariant-loop-h-2 decreases-loop-h-2 invariant-loop-h decreases-loop-h
 loop2-less c = omega arith
 
 one_more : (n : ℕ) → n < n + 1
@@ -156,15 +156,15 @@ one_more n = omega arith
 inside : (records words n : ℕ) → 4 * records ≡ words → n < records → n < words / 4
 inside records words n size below = omega arith
 
-loop2-again : tie.Need-loop2-preserved invariant-loop2 decreases-loop2 invariant-loop decreases-loop
+loop2-again : tie.Need-loop-h-2-preserved invariant-loop-h-2 decreases-loop-h-2 invariant-loop-h decreases-loop-h
 loop2-again c =
     let read = reading c.before.before.before in
-    let l = read.before.loop2.inv in (
+    let l = read.loop-h-2.inv in (
       omega (arith, l.0, l.2.up),
       omega arith,
       record {
         here = arrived c.before.before.before;
-        is = sym c.if5.false ∙ c.before.wide2.ensures ∙ ap (λ r. r.next) read.record-at2.ensures;
+        is = sym c.if-wide-following.false ∙ c.wide.ensures ∙ ap (λ r. r.next) read.record_at-r.ensures;
         up = one_more _;
         low = inside _ _ _ (entry read).pre.1.1 (omega arith);
       },
@@ -174,25 +174,25 @@ pub follow_spec : {M : Type 1} → statement M
 follow_spec =
     tie.close
     (tie.spec
-    invariant-loop2
-    decreases-loop2
-    invariant-loop
-    decreases-loop
-    begun-requires
+    invariant-loop-h-2
+    decreases-loop-h-2
+    invariant-loop-h
+    decreases-loop-h
+    begun-g-requires
     loop-holds
-    record-at-requires
-    wide-requires
-    at-end-requires
-    returns
-    may-follow-requires
-    returns-2
+    record_at-requires
+    wide-next-requires
+    at_end-requires
+    returns-then-next-eq0
+    may_follow-requires
+    returns-then-not-may_follow
     loop2-holds
-    record-at-requires-2
-    add-following
-    is-right-requires
+    record_at-r-requires
+    overflow_add-following
+    is_right-requires
     judge-requires
-    returns-3
-    onward-requires
+    returns-then-not-is_right
+    onward-g-requires
     loop-less
     loop-again
     wide-requires-2

@@ -15,33 +15,33 @@ within-requires : tie.Need-within-requires
 within-requires c κs = search rules
 
 -- N is an order
-order : (c : tie.Then1) → is_order c.before.before.args.h.order ≡ true
-order c = sym c.before.within.ensures ∙ c.if1.true
+order : (c : tie.Then-within) → is_order c.args.h.order ≡ true
+order c = sym c.within.ensures ∙ c.if-within.true
 
-square_small : (c : tie.Then1) → let n = c.before.before.args.h.order in n * n ≤ 360000
+square_small : (c : tie.Then-within) → let n = c.args.h.order in n * n ≤ 360000
 square_small c =
-    let n = c.before.before.args.h.order in
+    let n = c.args.h.order in
     let small = within-range n 600 (order c) in
     omega (arith, mul-le-mul {n₁ = n} {m₁ = n} {n₂ = 600} {m₂ = 600} small.1 small.1)
 
-mul-if2 : tie.Need-overflow-mul-if2
-mul-if2 c = omega (arith, square_small c)
+overflow_mul-n : tie.Need-overflow_mul-n
+overflow_mul-n c = omega (arith, square_small c)
 
-mul-result : tie.Need-overflow-mul-result
-mul-result c = omega (arith, square_small c.before.before.before.before)
+overflow_mul-result : tie.Need-overflow_mul-result
+overflow_mul-result c = omega (arith, square_small c.before.before.before.before)
 
-returns : tie.Need-returns
-returns c =
-    rw (order c.before.before.before.before.before, le-leb _ _ c.before.before.before.if2.true, le-leb _ _ c.before.if3.true)
+returns-then-least-h : tie.Need-returns-then-least-h
+returns-then-least-h c =
+    rw (order c.before.before.before.before.before, le-leb _ _ c.if-h-n.true, le-leb _ _ c.if-least-h.true)
 
-returns-2 : tie.Need-returns-2
-returns-2 c = rw (order c.before.before.before.before, le-leb _ _ c.before.before.if2.true, lt-leb _ _ c.if3.false)
+returns-else-least-h : tie.Need-returns-else-least-h
+returns-else-least-h c = rw (order c.before.before.before.before, le-leb _ _ c.if-h-n.true, lt-leb _ _ c.if-least-h.false)
 
-returns-3 : tie.Need-returns-3
-returns-3 c = rw (order c.before.before, lt-leb _ _ c.if2.false)
+returns-else-h-n : tie.Need-returns-else-h-n
+returns-else-h-n c = rw (order c.before.before, lt-leb _ _ c.if-h-n.false)
 
-returns-4 : tie.Need-returns-4
-returns-4 c = rw (sym c.before.within.ensures, c.if1.false)
+returns-else-within : tie.Need-returns-else-within
+returns-else-within c = rw (sym c.within.ensures, c.if-within.false)
 
-pub head-fits_spec : {M : Type 1} → statement M
-head-fits_spec = tie.close (tie.spec within-requires mul-if2 mul-result returns returns-2 returns-3 returns-4)
+pub head_fits_spec : {M : Type 1} → statement M
+head_fits_spec = tie.close (tie.spec within-requires overflow_mul-n overflow_mul-result returns-then-least-h returns-else-least-h returns-else-h-n returns-else-within)

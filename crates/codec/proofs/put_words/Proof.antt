@@ -10,68 +10,68 @@ use Rattle.codec.proofs.Turn.{copied, copied_all, word_stored, put-turn}
 use Rattle.codec.proofs.put_words.Statement.{statement}
 use Rattle.codec.proofs.put_words.Tie as tie
 
-abbrev invariant-loop : tie.invariant-loop
-invariant-loop words bytes₀ k₀ at₀ bytes k at =
+abbrev invariant-loop-k : tie.invariant-loop-k
+invariant-loop-k words bytes₀ k₀ at₀ bytes k at =
     (at ≡ 4 * k) × (k ≤ length words) × (length bytes ≡ length bytes₀) × (bytes ≡ copied (bytes_of words) bytes₀ at)
 
-abbrev decreases-loop : tie.decreases-loop
-decreases-loop words bytes₀ k₀ at₀ bytes k at = length words - k
+abbrev decreases-loop-k : tie.decreases-loop-k
+decreases-loop-k words bytes₀ k₀ at₀ bytes k at = length words - k
 
-loop-holds : tie.Need-loop-init invariant-loop decreases-loop
+loop-holds : tie.Need-loop-k-init invariant-loop-k decreases-loop-k
 loop-holds c = (refl, omega arith, refl, refl)
 
-mul-w : tie.Need-overflow-mul-w invariant-loop decreases-loop
-mul-w c = omega arith
+offset_bounds-words-k : tie.Need-offset_bounds-words-k invariant-loop-k decreases-loop-k
+offset_bounds-words-k c = omega arith
 
-shared-slice-read-w : tie.Need-shared-slice-read-w invariant-loop decreases-loop
-shared-slice-read-w c = omega arith
+bounds-words-k : tie.Need-bounds-words-k invariant-loop-k decreases-loop-k
+bounds-words-k c = omega arith
 
-cast-bytes : tie.Need-overflow-cast-bytes invariant-loop decreases-loop
-cast-bytes c = omega arith
+overflow_cast-bytes : tie.Need-overflow_cast-bytes invariant-loop-k decreases-loop-k
+overflow_cast-bytes c = omega arith
 
-slice-write-bytes : tie.Need-slice-write-bytes invariant-loop decreases-loop
-slice-write-bytes c = omega arith
+bounds-bytes-at : tie.Need-bounds-bytes-at invariant-loop-k decreases-loop-k
+bounds-bytes-at c = omega arith
 
-cast-bytes-2 : tie.Need-overflow-cast-bytes-2 invariant-loop decreases-loop
-cast-bytes-2 c = omega arith
+overflow_cast-bytes-in-loop-k : tie.Need-overflow_cast-bytes-in-loop-k invariant-loop-k decreases-loop-k
+overflow_cast-bytes-in-loop-k c = omega arith
 
-add-bytes : tie.Need-overflow-add-bytes invariant-loop decreases-loop
-add-bytes c = omega arith
+overflow_add-bytes : tie.Need-overflow_add-bytes invariant-loop-k decreases-loop-k
+overflow_add-bytes c = omega arith
 
-slice-write-bytes-2 : tie.Need-slice-write-bytes-2 invariant-loop decreases-loop
-slice-write-bytes-2 c = simp length-set (omega arith)
+bounds-bytes-at-in-loop-k : tie.Need-bounds-bytes-at-in-loop-k invariant-loop-k decreases-loop-k
+bounds-bytes-at-in-loop-k c = simp length-set (omega arith)
 
-cast-bytes-3 : tie.Need-overflow-cast-bytes-3 invariant-loop decreases-loop
-cast-bytes-3 c = omega arith
+overflow_cast-bytes-in-loop-k-2 : tie.Need-overflow_cast-bytes-in-loop-k-2 invariant-loop-k decreases-loop-k
+overflow_cast-bytes-in-loop-k-2 c = omega arith
 
-add-bytes-2 : tie.Need-overflow-add-bytes-2 invariant-loop decreases-loop
-add-bytes-2 c = omega arith
+overflow_add-bytes-in-loop-k : tie.Need-overflow_add-bytes-in-loop-k invariant-loop-k decreases-loop-k
+overflow_add-bytes-in-loop-k c = omega arith
 
-slice-write-bytes-3 : tie.Need-slice-write-bytes-3 invariant-loop decreases-loop
-slice-write-bytes-3 c = simp length-set (omega arith)
+bounds-bytes-at-in-loop-k-2 : tie.Need-bounds-bytes-at-in-loop-k-2 invariant-loop-k decreases-loop-k
+bounds-bytes-at-in-loop-k-2 c = simp length-set (omega arith)
 
-cast-bytes-4 : tie.Need-overflow-cast-bytes-4 invariant-loop decreases-loop
-cast-bytes-4 c = omega arith
+overflow_cast-bytes-in-loop-k-3 : tie.Need-overflow_cast-bytes-in-loop-k-3 invariant-loop-k decreases-loop-k
+overflow_cast-bytes-in-loop-k-3 c = omega arith
 
-add-bytes-3 : tie.Need-overflow-add-bytes-3 invariant-loop decreases-loop
-add-bytes-3 c = omega arith
+overflow_add-bytes-in-loop-k-2 : tie.Need-overflow_add-bytes-in-loop-k-2 invariant-loop-k decreases-loop-k
+overflow_add-bytes-in-loop-k-2 c = omega arith
 
-slice-write-bytes-4 : tie.Need-slice-write-bytes-4 invariant-loop decreases-loop
-slice-write-bytes-4 c = simp length-set (omega arith)
+bounds-bytes-at-in-loop-k-3 : tie.Need-bounds-bytes-at-in-loop-k-3 invariant-loop-k decreases-loop-k
+bounds-bytes-at-in-loop-k-3 c = simp length-set (omega arith)
 
-add_at : tie.Need-overflow-add-at invariant-loop decreases-loop
-add_at c = omega arith
+overflow_add-at : tie.Need-overflow_add-at invariant-loop-k decreases-loop-k
+overflow_add-at c = omega arith
 
-add-k : tie.Need-overflow-add-k invariant-loop decreases-loop
-add-k c = omega arith
+overflow_add-k : tie.Need-overflow_add-k invariant-loop-k decreases-loop-k
+overflow_add-k c = omega arith
 
-loop-less : tie.Need-loop-smaller invariant-loop decreases-loop
+loop-less : tie.Need-loop-k-smaller invariant-loop-k decreases-loop-k
 loop-less c = omega arith
 
-loop-again : tie.Need-loop-preserved invariant-loop decreases-loop
+loop-again : tie.Need-loop-k-preserved invariant-loop-k decreases-loop-k
 loop-again c =
-    let l = c.before.before.loop in
-    let a = c.before.before.before.args in (
+    let l = c.loop-k in
+    let a = c.args in (
       omega arith,
       omega arith,
       simp length-set l.invariant.2,
@@ -79,39 +79,39 @@ loop-again c =
           ∙ put-turn a.words.now a.bytes.now l.k l.at l.invariant.0 (omega arith) (omega arith),
     )
 
-same_length : tie.Need-same-length invariant-loop decreases-loop
-same_length c = c.before.loop.invariant.2
+shape_of-bytes : tie.Need-shape_of-bytes invariant-loop-k decreases-loop-k
+shape_of-bytes c = c.loop-k.invariant.2
 
-returns : tie.Need-returns invariant-loop decreases-loop
+returns : tie.Need-returns invariant-loop-k decreases-loop-k
 returns c =
-    let l = c.before.loop in
-    let ws = c.before.before.args.words.now in
+    let l = c.loop-k in
+    let ws = c.args.words.now in
     let end : l.at ≡ 4 * length ws = omega arith in
     l.invariant.3 ∙ ap (copied _ _) end ∙ copied_all _ _ _ (bytes_length ws)
 
-pub put-words_spec : {M : Type 1} → statement M
-put-words_spec =
+pub put_words_spec : {M : Type 1} → statement M
+put_words_spec =
     tie.close
     (tie.spec
-    invariant-loop
-    decreases-loop
+    invariant-loop-k
+    decreases-loop-k
     loop-holds
-    mul-w
-    shared-slice-read-w
-    cast-bytes
-    slice-write-bytes
-    cast-bytes-2
-    add-bytes
-    slice-write-bytes-2
-    cast-bytes-3
-    add-bytes-2
-    slice-write-bytes-3
-    cast-bytes-4
-    add-bytes-3
-    slice-write-bytes-4
-    add_at
-    add-k
+    offset_bounds-words-k
+    bounds-words-k
+    overflow_cast-bytes
+    bounds-bytes-at
+    overflow_cast-bytes-in-loop-k
+    overflow_add-bytes
+    bounds-bytes-at-in-loop-k
+    overflow_cast-bytes-in-loop-k-2
+    overflow_add-bytes-in-loop-k
+    bounds-bytes-at-in-loop-k-2
+    overflow_cast-bytes-in-loop-k-3
+    overflow_add-bytes-in-loop-k-2
+    bounds-bytes-at-in-loop-k-3
+    overflow_add-at
+    overflow_add-k
     loop-less
     loop-again
-    same_length
+    shape_of-bytes
     returns)

@@ -6,28 +6,28 @@ use Rattle.codec.proofs.Outcome.{reads_uneven, reads_short, reads-done, made}
 use Rattle.codec.proofs.read_file.Statement.{statement}
 use Rattle.codec.proofs.read_file.Tie as tie
 
-returns : tie.Need-returns
-returns c =
-    let a = c.before.before.before.args in
+returns-then-bytes-ne0 : tie.Need-returns-then-bytes-ne0
+returns-then-bytes-ne0 c =
+    let a = c.args in
     made a.bytes.now a.words.now (reads_uneven _ _ (omega arith))
 
-returns-2 : tie.Need-returns-2
-returns-2 c =
-    let a = c.before.before.before.before.args in
+returns-then-words-count : tie.Need-returns-then-words-count
+returns-then-words-count c =
+    let a = c.args in
     made a.bytes.now a.words.now (reads_short _ _ (omega arith) (omega arith))
 
-take-words-requires : tie.Need-take-words-requires
-take-words-requires c κs = search rules
+take_words-requires : tie.Need-take_words-requires
+take_words-requires c κs = search rules
 
-same_length : tie.Need-same-length
-same_length c = search rules
+shape_of-words : tie.Need-shape_of-words
+shape_of-words c = search rules
 
-returns-3 : tie.Need-returns-3
+returns-3 : tie.Need-returns
 returns-3 c =
     let call = c.before.before in
-    let a = call.before.before.before.before.before.before.args in
+    let a = call.args in
     let done = made a.bytes.now a.words.now (reads-done _ _ (omega arith) (omega arith)) in
     (done.0, call.take_words.ensures ∙ done.1)
 
 pub read_file_spec : {M : Type 1} → statement M
-read_file_spec = tie.close (tie.spec returns returns-2 take-words-requires same_length returns-3)
+read_file_spec = tie.close (tie.spec returns-then-bytes-ne0 returns-then-words-count take_words-requires shape_of-words returns-3)

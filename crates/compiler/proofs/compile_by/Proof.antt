@@ -20,35 +20,35 @@ told : (c : tie.After-check) → let a = (entry c).args in
     orderly (wanted (compiler_of a.method) a.n) a.n a.plan.now (length a.work.now) ≡ labels_of c.check.result
 told c =
     let a = (entry c).args in
-    ap (λ k. orderly k a.n a.plan.now (length a.work.now)) (sym (wanted-each (compiler_of a.method) a.n c.before.each.ensures))
+    ap (λ k. orderly k a.n a.plan.now (length a.work.now)) (sym (wanted-each (compiler_of a.method) a.n c.each.ensures))
     ∙ sym c.check.ensures
 
 each-requires : tie.Need-each-requires
 each-requires c κs = search rules
 
 check-requires : tie.Need-check-requires
-check-requires c κs = omega (arith, c.each.ensures, each-range (compiler_of c.before.before.before.before.args.method))
+check-requires c κs = omega (arith, c.each.ensures, each-range (compiler_of c.args.method))
 
-enum-known-number : tie.Need-enum-known-number
-enum-known-number c = search rules
+enum_known-number : tie.Need-enum_known-number
+enum_known-number c = search rules
 
-enum_told : tie.Need-enum-told
-enum_told c = search rules
+enum_told-1 : tie.Need-enum_told-1
+enum_told-1 c = search rules
 
-compile-good-requires : tie.Need-compile-good-requires
-compile-good-requires c κs = told c.before.before.before.before ∙ ap labels_of c.before.before.enum_told.given.1
+compile_good-requires : tie.Need-compile_good-requires
+compile_good-requires c κs = told c.before.before.before.before ∙ ap labels_of c.enum_told-1.given.1
 
-returns : tie.Need-returns
-returns c = ends-orderly _ _ _ _ _ _ _ (told c.before.before.before ∙ ap labels_of c.before.number.given.1)
+returns-in-Bad : tie.Need-returns-in-Bad
+returns-in-Bad c = ends-orderly _ _ _ _ _ _ _ (told c.before.before.before ∙ ap labels_of c.number-1.given.1)
 
-same_length : tie.Need-same-length
-same_length c = search rules
+shape_of-work : tie.Need-shape_of-work
+shape_of-work c = search rules
 
-same-length-2 : tie.Need-same-length-2
-same-length-2 c = search rules
+shape_of-words : tie.Need-shape_of-words
+shape_of-words c = search rules
 
-returns-2 : tie.Need-returns-2
-returns-2 c = search rules
+returns-in-Good : tie.Need-returns-in-Good
+returns-in-Good c = search rules
 
 pub compile_by_spec : {M : Type 1} → statement M
 compile_by_spec =
@@ -56,10 +56,10 @@ compile_by_spec =
     (tie.spec
     each-requires
     check-requires
-    enum-known-number
-    enum_told
-    compile-good-requires
-    returns
-    same_length
-    same-length-2
-    returns-2)
+    enum_known-number
+    enum_told-1
+    compile_good-requires
+    returns-in-Bad
+    shape_of-work
+    shape_of-words
+    returns-in-Good)

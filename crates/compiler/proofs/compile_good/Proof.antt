@@ -5,73 +5,73 @@ use Rattle.compiler.specs.Compilation.{compiler_of}
 use Rattle.compiler.proofs.compile_good.Statement.{statement}
 use Rattle.compiler.proofs.compile_good.Tie as tie
 
-enum_told : tie.Need-enum-told
-enum_told c = search rules
+enum_told-1 : tie.Need-enum_told-1
+enum_told-1 c = search rules
 
-compile-crout-requires : tie.Need-compile-crout-requires
-compile-crout-requires c κs = rw (ap compiler_of c.before.before.enum_told.given.1) at c.before.before.before.before.before.before.before.requires
+compile_crout-requires : tie.Need-compile_crout-requires
+compile_crout-requires c κs = rw (ap compiler_of c.enum_told-1.given.1) at c.requires
 
-enum-told-2 : tie.Need-enum-told-2
-enum-told-2 c = search rules
+enum_told-in-Compact : tie.Need-enum_told-in-Compact
+enum_told-in-Compact c = search rules
 
-compile-crout-requires-2 : tie.Need-compile-crout-requires-2
-compile-crout-requires-2 c κs = rw (ap compiler_of c.before.before.enum-told2.given.1) at c.before.before.before.before.before.before.before.requires
+compile_crout-requires-in-Compact : tie.Need-compile_crout-requires-in-Compact
+compile_crout-requires-in-Compact c κs = rw (ap compiler_of c.enum_told-in-Compact-1.given.1) at c.requires
 
-enum-told-3 : tie.Need-enum-told-3
-enum-told-3 c = search rules
+enum_told-in-Sweep : tie.Need-enum_told-in-Sweep
+enum_told-in-Sweep c = search rules
 
-compile-rows-requires : tie.Need-compile-rows-requires
-compile-rows-requires c κs = rw (ap compiler_of c.before.before.enum-told3.given.1) at c.before.before.before.before.before.before.before.requires
+compile_rows-requires : tie.Need-compile_rows-requires
+compile_rows-requires c κs = rw (ap compiler_of c.enum_told-in-Sweep-1.given.1) at c.requires
 
-same_length : tie.Need-same-length
-same_length c = search rules
+shape_of-work-in-Plain : tie.Need-shape_of-work-in-Plain
+shape_of-work-in-Plain c = search rules
 
-same-length-2 : tie.Need-same-length-2
-same-length-2 c = search rules
+shape_of-words-in-Plain : tie.Need-shape_of-words-in-Plain
+shape_of-words-in-Plain c = search rules
 
-returns : tie.Need-returns
-returns c =
+returns-in-Plain : tie.Need-returns-in-Plain
+returns-in-Plain c =
     let d = c.before.before.before.before in
-    rw (ap compiler_of d.before.before.before.enum_told.given.1) d.compile-crout.ensures
+    rw (ap compiler_of d.enum_told-1.given.1) d.compile_crout.ensures
 
-same-length-3 : tie.Need-same-length-3
-same-length-3 c = search rules
+shape_of-work-in-Compact : tie.Need-shape_of-work-in-Compact
+shape_of-work-in-Compact c = search rules
 
-same-length-4 : tie.Need-same-length-4
-same-length-4 c = search rules
+shape_of-words-in-Compact : tie.Need-shape_of-words-in-Compact
+shape_of-words-in-Compact c = search rules
 
-returns-2 : tie.Need-returns-2
-returns-2 c =
+returns-in-Compact : tie.Need-returns-in-Compact
+returns-in-Compact c =
     let d = c.before.before.before.before in
-    rw (ap compiler_of d.before.before.before.enum-told2.given.1) d.compile-crout2.ensures
+    rw (ap compiler_of d.enum_told-in-Compact-1.given.1) d.compile_crout-in-Compact.ensures
 
-same-length-5 : tie.Need-same-length-5
-same-length-5 c = search rules
+shape_of-work-in-Sweep : tie.Need-shape_of-work-in-Sweep
+shape_of-work-in-Sweep c = search rules
 
-same-length-6 : tie.Need-same-length-6
-same-length-6 c = search rules
+shape_of-words-in-Sweep : tie.Need-shape_of-words-in-Sweep
+shape_of-words-in-Sweep c = search rules
 
-returns-3 : tie.Need-returns-3
-returns-3 c =
+returns-in-Sweep : tie.Need-returns-in-Sweep
+returns-in-Sweep c =
     let d = c.before.before.before.before in
-    rw (ap compiler_of d.before.before.before.enum-told3.given.1) d.compile-rows.ensures
+    rw (ap compiler_of d.enum_told-in-Sweep-1.given.1) d.compile_rows.ensures
 
 pub compile_good_spec : {M : Type 1} → statement M
 compile_good_spec =
     tie.close
     (tie.spec
-    enum_told
-    compile-crout-requires
-    enum-told-2
-    compile-crout-requires-2
-    enum-told-3
-    compile-rows-requires
-    same_length
-    same-length-2
-    returns
-    same-length-3
-    same-length-4
-    returns-2
-    same-length-5
-    same-length-6
-    returns-3)
+    enum_told-1
+    compile_crout-requires
+    enum_told-in-Compact
+    compile_crout-requires-in-Compact
+    enum_told-in-Sweep
+    compile_rows-requires
+    shape_of-work-in-Plain
+    shape_of-words-in-Plain
+    returns-in-Plain
+    shape_of-work-in-Compact
+    shape_of-words-in-Compact
+    returns-in-Compact
+    shape_of-work-in-Sweep
+    shape_of-words-in-Sweep
+    returns-in-Sweep)

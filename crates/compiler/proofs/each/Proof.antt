@@ -5,23 +5,23 @@ use Rattle.compiler.specs.Compilation.{compiler_of, each_of}
 use Rattle.compiler.proofs.each.Statement.{statement}
 use Rattle.compiler.proofs.each.Tie as tie
 
-enum_told : tie.Need-enum-told
-enum_told c = search rules
+enum_told-1 : tie.Need-enum_told-1
+enum_told-1 c = search rules
 
-enum-told-2 : tie.Need-enum-told-2
-enum-told-2 c = search rules
+enum_told-in-Compact : tie.Need-enum_told-in-Compact
+enum_told-in-Compact c = search rules
 
-enum-told-3 : tie.Need-enum-told-3
-enum-told-3 c = search rules
+enum_told-in-Sweep : tie.Need-enum_told-in-Sweep
+enum_told-in-Sweep c = search rules
 
-returns : tie.Need-returns
-returns c = sym (ap (λ m. each_of (compiler_of m)) c.enum_told.given.1)
+returns-in-Plain : tie.Need-returns-in-Plain
+returns-in-Plain c = sym (ap (λ m. each_of (compiler_of m)) c.enum_told-1.given.1)
 
-returns-2 : tie.Need-returns-2
-returns-2 c = sym (ap (λ m. each_of (compiler_of m)) c.enum-told2.given.1)
+returns-in-Compact : tie.Need-returns-in-Compact
+returns-in-Compact c = sym (ap (λ m. each_of (compiler_of m)) c.enum_told-in-Compact-1.given.1)
 
-returns-3 : tie.Need-returns-3
-returns-3 c = sym (ap (λ m. each_of (compiler_of m)) c.enum-told3.given.1)
+returns-in-Sweep : tie.Need-returns-in-Sweep
+returns-in-Sweep c = sym (ap (λ m. each_of (compiler_of m)) c.enum_told-in-Sweep-1.given.1)
 
 pub each_spec : {M : Type 1} → statement M
-each_spec = tie.close (tie.spec enum_told enum-told-2 enum-told-3 returns returns-2 returns-3)
+each_spec = tie.close (tie.spec enum_told-1 enum_told-in-Compact enum_told-in-Sweep returns-in-Plain returns-in-Compact returns-in-Sweep)

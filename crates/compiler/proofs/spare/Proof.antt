@@ -11,17 +11,17 @@ use Rattle.compiler.proofs.spare.Tie as tie
 square_fits : (c : tie.Start) → c.args.n * c.args.n ≤ 360000
 square_fits c = mul-le-mul {n₂ = 600} {m₂ = 600} c.requires c.requires
 
-mul-result : tie.Need-overflow-mul-result
-mul-result c = omega (arith, square_fits c.before)
+overflow_mul-result : tie.Need-overflow_mul-result
+overflow_mul-result c = omega (arith, square_fits c.before)
 
-mul-result-2 : tie.Need-overflow-mul-result-2
-mul-result-2 c = omega (arith, square_fits c.before)
+overflow_mul-result-then-again : tie.Need-overflow_mul-result-then-again
+overflow_mul-result-then-again c = omega (arith, square_fits c.before)
 
-returns : tie.Need-returns
-returns c = sym (ap (λ b. spare (crout_of b) c.before.args.n) c.if1.true)
+returns-then-again : tie.Need-returns-then-again
+returns-then-again c = sym (ap (λ b. spare (crout_of b) c.args.n) c.if-again.true)
 
-returns-2 : tie.Need-returns-2
-returns-2 c = sym (ap (λ b. spare (crout_of b) c.before.args.n) c.if1.false)
+returns-else-again : tie.Need-returns-else-again
+returns-else-again c = sym (ap (λ b. spare (crout_of b) c.args.n) c.if-again.false)
 
 pub spare_spec : {M : Type 1} → statement M
-spare_spec = tie.close (tie.spec mul-result mul-result-2 returns returns-2)
+spare_spec = tie.close (tie.spec overflow_mul-result overflow_mul-result-then-again returns-then-again returns-else-again)

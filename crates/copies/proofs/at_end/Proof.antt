@@ -9,43 +9,43 @@ use Rattle.copies.proofs.Chained.{next-inside, end-told, more_told}
 use Rattle.copies.proofs.at_end.Statement.{statement}
 use Rattle.copies.proofs.at_end.Tie as tie
 
-returns : tie.Need-returns
-returns c = let a = c.before.before.args in sym (told_over a.words.now a.z [] (not-true _ c.if1.true))
+returns-then-not-z : tie.Need-returns-then-not-z
+returns-then-not-z c = let a = c.args in sym (told_over a.words.now a.z [] (not-true _ c.if-not-z.true))
 
-mul_next : tie.Need-overflow-mul-next
-mul_next c = omega (arith, next-inside c.before.before.requires)
+overflow_mul-next : tie.Need-overflow_mul-next
+overflow_mul-next c = omega (arith, next-inside c.requires)
 
-add-next : tie.Need-overflow-add-next
-add-next c = omega (arith, next-inside c.before.before.requires)
+overflow_add-next : tie.Need-overflow_add-next
+overflow_add-next c = omega (arith, next-inside c.requires)
 
-mul-next-2 : tie.Need-overflow-mul-next-2
-mul-next-2 c = omega (arith, next-inside c.before.before.requires)
+offset_bounds-words-last : tie.Need-offset_bounds-words-last
+offset_bounds-words-last c = omega (arith, next-inside c.requires)
 
-shared-slice-read-next : tie.Need-shared-slice-read-next
-shared-slice-read-next c = (next-inside c.before.before.before.requires).1
+bounds-words-last : tie.Need-bounds-words-last
+bounds-words-last c = (next-inside c.requires).1
 
-cast-t12 : tie.Need-overflow-cast-t12
-cast-t12 c = omega (arith, c.before.shared-slice-known.given (4 * c.before.before.before.before.args.z.last + 3))
+overflow_cast-result : tie.Need-overflow_cast-result
+overflow_cast-result c = omega (arith, c.shared_slice_known-1.given (4 * c.args.z.last + 3))
 
-returns-2 : tie.Need-returns-2
-returns-2 c =
+returns-then-next-ne0 : tie.Need-returns-then-next-ne0
+returns-then-next-ne0 c =
     let start = c.before.before.before.before in
-    more_told start.args.words.now start.args.z start.requires (not-false _ c.before.before.if1.false) c.if2.true
+    more_told start.args.words.now start.args.z start.requires (not-false _ c.if-not-z.false) c.if-next-ne0.true
 
-returns-3 : tie.Need-returns-3
+returns-3 : tie.Need-returns
 returns-3 c =
     let start = c.before.before.before.before in
-    end-told start.args.words.now start.args.z start.requires (not-false _ c.before.before.if1.false) c.if2.false
+    end-told start.args.words.now start.args.z start.requires (not-false _ c.if-not-z.false) c.if-next-ne0.false
 
-pub at-end_spec : {M : Type 1} → statement M
-at-end_spec =
+pub at_end_spec : {M : Type 1} → statement M
+at_end_spec =
     tie.close
     (tie.spec
-    returns
-    mul_next
-    add-next
-    mul-next-2
-    shared-slice-read-next
-    cast-t12
-    returns-2
+    returns-then-not-z
+    overflow_mul-next
+    overflow_add-next
+    offset_bounds-words-last
+    bounds-words-last
+    overflow_cast-result
+    returns-then-next-ne0
     returns-3)

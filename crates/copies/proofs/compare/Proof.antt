@@ -11,32 +11,32 @@ use Rattle.copies.proofs.compare.Tie as tie
 check-requires : tie.Need-check-requires
 check-requires c κs = omega arith
 
-enum-known-number : tie.Need-enum-known-number
-enum-known-number c = search rules
+enum_known-number : tie.Need-enum_known-number
+enum_known-number c = search rules
 
-enum_told : tie.Need-enum-told
-enum_told c = search rules
+enum_told-1 : tie.Need-enum_told-1
+enum_told-1 c = search rules
 
-compare-good-requires : tie.Need-compare-good-requires
-compare-good-requires c κs = rw (one-mul _) at (sym c.before.before.before.check.ensures ∙ ap labels_of c.before.enum_told.given.1)
+compare_good-requires : tie.Need-compare_good-requires
+compare_good-requires c κs = rw (one-mul _) at (sym c.check.ensures ∙ ap labels_of c.enum_told-1.given.1)
 
-returns : tie.Need-returns
-returns c = refused-early _ _ _ _ (rw (one-mul _) at (sym c.before.before.before.check.ensures ∙ ap labels_of c.before.number.given.1))
+returns-in-Bad : tie.Need-returns-in-Bad
+returns-in-Bad c = refused-early _ _ _ _ (rw (one-mul _) at (sym c.check.ensures ∙ ap labels_of c.number-1.given.1))
 
-same_length : tie.Need-same-length
-same_length c = search rules
+shape_of-work : tie.Need-shape_of-work
+shape_of-work c = search rules
 
-returns-2 : tie.Need-returns-2
-returns-2 c = search rules
+returns-in-Good : tie.Need-returns-in-Good
+returns-in-Good c = search rules
 
 pub compare_spec : {M : Type 1} → statement M
 compare_spec =
     tie.close
     (tie.spec
     check-requires
-    enum-known-number
-    enum_told
-    compare-good-requires
-    returns
-    same_length
-    returns-2)
+    enum_known-number
+    enum_told-1
+    compare_good-requires
+    returns-in-Bad
+    shape_of-work
+    returns-in-Good)

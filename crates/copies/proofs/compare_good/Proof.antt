@@ -8,66 +8,66 @@ use Rattle.copies.proofs.compare_good.Statement.{statement}
 use Rattle.copies.proofs.compare_good.Tie as tie
 
 -- Places of the code: the entry, seen from where the slots are given; and that place, seen from where no pivot is missing.
-abbrev entry : tie.After-slot → tie.Start
+abbrev entry : tie.After-slot-filled → tie.Start
 entry c = c.before.before.before.before.before.before.before
 
-abbrev slotted : tie.Else1 → tie.After-slot
+abbrev slotted : tie.Else-missing-ne0 → tie.After-slot-filled
 slotted c = c.before.before.before.before.before
 
-slice-aggregate-slot : tie.Need-slice-aggregate-slot
-slice-aggregate-slot c = search rules
+slice_bounds-slot-end : tie.Need-slice_bounds-slot-end
+slice_bounds-slot-end c = search rules
 
-slice-aggregate-slot-2 : tie.Need-slice-aggregate-slot-2
-slice-aggregate-slot-2 c = search rules
+slice_bounds-slot-end-2 : tie.Need-slice_bounds-slot-end-2
+slice_bounds-slot-end-2 c = search rules
 
-slot-requires : tie.Need-slot-requires
-slot-requires c κs = (rw (one-mul _) c.before.before.before.before.before.before.requires, (omega arith, (refl, refl)))
+slot-filled-requires : tie.Need-slot-filled-requires
+slot-filled-requires c κs = (rw (one-mul _) c.requires, (omega arith, (refl, refl)))
 
-cast-t16 : tie.Need-overflow-cast-t16
-cast-t16 c = search rules
+overflow_cast-result : tie.Need-overflow_cast-result
+overflow_cast-result c = search rules
 
-same_length : tie.Need-same-length
-same_length c = search rules
+shape_of-work-then-missing-ne0 : tie.Need-shape_of-work-then-missing-ne0
+shape_of-work-then-missing-ne0 c = search rules
 
-returns : tie.Need-returns
-returns c =
+returns-then-missing-ne0 : tie.Need-returns-then-missing-ne0
+returns-then-missing-ne0 c =
     let s = c.before.before.before.before.before in
-    refused-gap _ _ _ (entry s).requires s.slot.ensures _ c.if1.true
+    refused-gap _ _ _ (entry s).requires s.slot-filled.ensures _ c.if-missing-ne0.true
 
-slice-aggregate-compare-program : tie.Need-slice-aggregate-compare-program
-slice-aggregate-compare-program c = search rules
+slice_bounds-compare_program-end : tie.Need-slice_bounds-compare_program-end
+slice_bounds-compare_program-end c = search rules
 
-slice-aggregate-compare-program-2 : tie.Need-slice-aggregate-compare-program-2
-slice-aggregate-compare-program-2 c = search rules
+slice_bounds-compare_program-end-2 : tie.Need-slice_bounds-compare_program-end-2
+slice_bounds-compare_program-end-2 c = search rules
 
-compare-program-requires : tie.Need-compare-program-requires
-compare-program-requires c κs =
+compare_program-requires : tie.Need-compare_program-requires
+compare_program-requires c κs =
     let e = c.before.before.before in
     let s = slotted e in
-    slots_stand _ _ _ (entry s).pre s.slot.ensures e.if1.false
+    slots_stand _ _ _ (entry s).pre s.slot-filled.ensures e.if-missing-ne0.false
 
-same-length-2 : tie.Need-same-length-2
-same-length-2 c = search rules
+shape_of-work : tie.Need-shape_of-work
+shape_of-work c = search rules
 
-returns-2 : tie.Need-returns-2
+returns-2 : tie.Need-returns
 returns-2 c =
     let e = c.before.before.before.before in
     let s = slotted e in
-    let a = admitted _ _ _ (entry s).pre s.slot.ensures e.if1.false in
-    (c.compare-program.ensures _ a.0, a.1)
+    let a = admitted _ _ _ (entry s).pre s.slot-filled.ensures e.if-missing-ne0.false in
+    (c.compare_program.ensures _ a.0, a.1)
 
 pub compare_good_spec : {M : Type 1} → statement M
 compare_good_spec =
     tie.close
     (tie.spec
-    slice-aggregate-slot
-    slice-aggregate-slot-2
-    slot-requires
-    cast-t16
-    same_length
-    returns
-    slice-aggregate-compare-program
-    slice-aggregate-compare-program-2
-    compare-program-requires
-    same-length-2
+    slice_bounds-slot-end
+    slice_bounds-slot-end-2
+    slot-filled-requires
+    overflow_cast-result
+    shape_of-work-then-missing-ne0
+    returns-then-missing-ne0
+    slice_bounds-compare_program-end
+    slice_bounds-compare_program-end-2
+    compare_program-requires
+    shape_of-work
     returns-2)

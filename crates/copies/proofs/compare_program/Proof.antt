@@ -13,65 +13,65 @@ use Rattle.copies.proofs.compare_program.Tie as tie
 
 -- Places of the code: the entry, seen from where 7 to 13 are checked; that place, seen from where they are passed; and that one, seen from where record 0
 -- is compared.
-abbrev entry : tie.After-check → tie.Start
+abbrev entry : tie.After-check-checked → tie.Start
 entry c = c.before.before.before.before.before.before
 
-abbrev checked : tie.After-enum-told → tie.After-check
+abbrev checked : tie.In_default → tie.After-check-checked
 checked c = c.before.before
 
-abbrev passed : tie.After-head-is → tie.After-enum-told
+abbrev passed : tie.After-head_is → tie.In_default
 passed c = c.before
 
 -- 7 to 13 passed, and 28 of record 0, as it was tested
-fine_now : (c : tie.After-enum-told) → check (entry (checked c)).args.words.now ≡ fine
-fine_now c = sym (checked c).check.ensures ∙ ap verdict_of c.enum_told.given.1
+fine_now : (c : tie.In_default) → check (entry (checked c)).args.words.now ≡ fine
+fine_now c = sym (checked c).check.ensures ∙ ap verdict_of c.enum_told-1.given.1
 
-head_now : (c : tie.After-head-is) → let a = (entry (checked (passed c))).args in
-    head_is a.words.now a.n (length a.plan.now) (slots a.n a.plan.now) ≡ c.head-is.result
+head_now : (c : tie.After-head_is) → let a = (entry (checked (passed c))).args in
+    head_is a.words.now a.n (length a.plan.now) (slots a.n a.plan.now) ≡ c.head_is.result
 head_now c =
     let e = entry (checked (passed c)) in
-    ap (head_is e.args.words.now e.args.n (length e.args.plan.now)) (sym e.pre.slots-are) ∙ sym c.head-is.ensures
+    ap (head_is e.args.words.now e.args.n (length e.args.plan.now)) (sym e.pre.slots-are) ∙ sym c.head_is.ensures
 
-check-requires : tie.Need-check-requires
-check-requires c κs = search rules
+check-checked-requires : tie.Need-check-checked-requires
+check-checked-requires c κs = search rules
 
-enum-known-checked : tie.Need-enum-known-checked
-enum-known-checked c = search rules
+enum_known-checked : tie.Need-enum_known-checked
+enum_known-checked c = search rules
 
-returns : tie.Need-returns
-returns c = refused-check _ _ _ (sym c.before.before.before.check.ensures ∙ ap verdict_of c.before.checked.given.1)
+returns-in-Refused : tie.Need-returns-in-Refused
+returns-in-Refused c = refused-check _ _ _ (sym c.check-checked.ensures ∙ ap verdict_of c.checked-1.given.1)
 
-enum_told : tie.Need-enum-told
-enum_told c = search rules
+enum_told-1 : tie.Need-enum_told-1
+enum_told-1 c = search rules
 
-head-is-requires : tie.Need-head-is-requires
-head-is-requires c κs = (chain-stands _ (fine_now c)).0
+head_is-requires : tie.Need-head_is-requires
+head_is-requires c κs = (chain-stands _ (fine_now c)).0
 
-returns-2 : tie.Need-returns-2
-returns-2 c =
+returns-then-not-head_is : tie.Need-returns-then-not-head_is
+returns-then-not-head_is c =
     let h = c.before in
-    refused-head _ _ _ (fine_now (passed h)) (head_now h ∙ not-true _ c.if1.true)
+    refused-head _ _ _ (fine_now (passed h)) (head_now h ∙ not-true _ c.if-not-head_is.true)
 
-compare-records-requires : tie.Need-compare-records-requires
-compare-records-requires c κs =
+compare_records-requires : tie.Need-compare_records-requires
+compare_records-requires c κs =
     let p = passed c.before in
     ((entry (checked p)).requires.ready, (chain-stands _ (fine_now p)).1)
 
-returns-3 : tie.Need-returns-3
+returns-3 : tie.Need-returns
 returns-3 c =
     let h = c.before.before in
     let p = passed h in
-    compared-chain _ _ _ (fine_now p) (head_now h ∙ not-false _ c.before.if1.false) (entry (checked p)).requires.records c.compare-records.ensures
+    compared-chain _ _ _ (fine_now p) (head_now h ∙ not-false _ c.if-not-head_is.false) (entry (checked p)).requires.records c.compare_records.ensures
 
 pub compare_program_spec : {M : Type 1} → statement M
 compare_program_spec =
     tie.close
     (tie.spec
-    check-requires
-    enum-known-checked
-    returns
-    enum_told
-    head-is-requires
-    returns-2
-    compare-records-requires
+    check-checked-requires
+    enum_known-checked
+    returns-in-Refused
+    enum_told-1
+    head_is-requires
+    returns-then-not-head_is
+    compare_records-requires
     returns-3)

@@ -9,30 +9,30 @@ use Rattle.copies.proofs.compare_records.Statement.{statement}
 use Rattle.copies.proofs.compare_records.Tie as tie
 
 -- Places of the code: where the batches are compared, with the entry before it, seen from where the solution is.
-abbrev entry : tie.After-compare-batches → tie.Start
+abbrev entry : tie.After-compare_batches-batches → tie.Start
 entry c = c.before.before.before.before.before.before.before
 
-abbrev batches : tie.After-compare-solution → tie.After-compare-batches
+abbrev batches : tie.After-compare_solution-solution → tie.After-compare_batches-batches
 batches c = c.before.before.before
 
-slice-aggregate-compare-batches : tie.Need-slice-aggregate-compare-batches
-slice-aggregate-compare-batches c = search rules
+slice_bounds-compare_batches-end : tie.Need-slice_bounds-compare_batches-end
+slice_bounds-compare_batches-end c = search rules
 
-compare-batches-requires : tie.Need-compare-batches-requires
-compare-batches-requires c κs =
-    let p = c.before.before.before.before.before.before.requires in
+compare_batches-batches-requires : tie.Need-compare_batches-batches-requires
+compare_batches-batches-requires c κs =
+    let p = c.requires in
     (p.0, (p.1, refl))
 
-slice-aggregate-compare-solution : tie.Need-slice-aggregate-compare-solution
-slice-aggregate-compare-solution c = search rules
+slice_bounds-compare_solution-end : tie.Need-slice_bounds-compare_solution-end
+slice_bounds-compare_solution-end c = search rules
 
-compare-solution-requires : tie.Need-compare-solution-requires
-compare-solution-requires c κs =
+compare_solution-solution-requires : tie.Need-compare_solution-solution-requires
+compare_solution-solution-requires c κs =
     let b = c.before.before in
-    ((entry b).requires.0.covers, (b.compare-batches.ensures.0, omega arith))
+    ((entry b).requires.0.covers, (b.compare_batches-batches.ensures.0, omega arith))
 
-at-end-requires : tie.Need-at-end-requires
-at-end-requires c κs = c.before.compare-solution.ensures.0
+at_end-requires : tie.Need-at_end-requires
+at_end-requires c κs = c.compare_solution-solution.ensures.0
 
 returns : tie.Need-returns
 returns c =
@@ -41,16 +41,16 @@ returns c =
     let a = (entry b).args in
     let work = a.work.now in
     let batch-records = batch_records a.n a.plan.now work in
-    let all = leads_on _ batch-records (solution_records a.n work) _ _ _ b.compare-batches.ensures.1 s.compare-solution.ensures.1 in
-    c.at-end.ensures ∙ led-through _ _ _ all
+    let all = leads_on _ batch-records (solution_records a.n work) _ _ _ b.compare_batches-batches.ensures.1 s.compare_solution-solution.ensures.1 in
+    c.at_end.ensures ∙ led-through _ _ _ all
 
 pub compare_records_spec : {M : Type 1} → statement M
 compare_records_spec =
     tie.close
     (tie.spec
-    slice-aggregate-compare-batches
-    compare-batches-requires
-    slice-aggregate-compare-solution
-    compare-solution-requires
-    at-end-requires
+    slice_bounds-compare_batches-end
+    compare_batches-batches-requires
+    slice_bounds-compare_solution-end
+    compare_solution-solution-requires
+    at_end-requires
     returns)

@@ -4,39 +4,39 @@ use borrow.Author.Tests.{eq-eqb, ne_eqb}
 use Rattle.copies.proofs.head_is.Statement.{statement}
 use Rattle.copies.proofs.head_is.Tie as tie
 
-shared-slice-read-if1 : tie.Need-shared-slice-read-if1
-shared-slice-read-if1 c = search rules
+bounds-words-0 : tie.Need-bounds-words-0
+bounds-words-0 c = search rules
 
-shared-slice-read-wide : tie.Need-shared-slice-read-wide
-shared-slice-read-wide c = search rules
+bounds-words-1 : tie.Need-bounds-words-1
+bounds-words-1 c = search rules
 
 wide-requires : tie.Need-wide-requires
 wide-requires c κs = search rules
 
-shared-slice-read-result : tie.Need-shared-slice-read-result
-shared-slice-read-result c = search rules
+bounds-words-2 : tie.Need-bounds-words-2
+bounds-words-2 c = search rules
 
-returns : tie.Need-returns
-returns c =
+returns-then-wide-labels : tie.Need-returns-then-wide-labels
+returns-then-wide-labels c =
     let w = c.before.before in
-    rw (eq-eqb _ _ w.before.before.if1.true, ← w.wide.ensures, eq-eqb _ _ c.before.if2.true)
+    rw (eq-eqb _ _ w.if-words-n.true, ← w.wide.ensures, eq-eqb _ _ c.if-wide-labels.true)
 
-returns-2 : tie.Need-returns-2
-returns-2 c =
+returns-else-wide-labels : tie.Need-returns-else-wide-labels
+returns-else-wide-labels c =
     let w = c.before in
-    rw (eq-eqb _ _ w.before.before.if1.true, ← w.wide.ensures, ne_eqb _ _ c.if2.false)
+    rw (eq-eqb _ _ w.if-words-n.true, ← w.wide.ensures, ne_eqb _ _ c.if-wide-labels.false)
 
-returns-3 : tie.Need-returns-3
-returns-3 c = rw (ne_eqb _ _ c.if1.false)
+returns-else-words-n : tie.Need-returns-else-words-n
+returns-else-words-n c = rw (ne_eqb _ _ c.if-words-n.false)
 
 pub head_is_spec : {M : Type 1} → statement M
 head_is_spec =
     tie.close
     (tie.spec
-    shared-slice-read-if1
-    shared-slice-read-wide
+    bounds-words-0
+    bounds-words-1
     wide-requires
-    shared-slice-read-result
-    returns
-    returns-2
-    returns-3)
+    bounds-words-2
+    returns-then-wide-labels
+    returns-else-wide-labels
+    returns-else-words-n)

@@ -22,91 +22,91 @@ module _ (r s : Record) where
   unfolding same_record
   third_decides first second = rw (eq-eqb r.kind s.kind first, eq-eqb r.p s.p second)
 
-mul_at : tie.Need-overflow-mul-at
-mul_at c = search rules
+overflow_mul-at : tie.Need-overflow_mul-at
+overflow_mul-at c = search rules
 
-mul-own : tie.Need-overflow-mul-own
-mul-own c = search rules
+overflow_mul-own : tie.Need-overflow_mul-own
+overflow_mul-own c = search rules
 
-mul-if1 : tie.Need-overflow-mul-if1
-mul-if1 c = search rules
+offset_bounds-formula-own : tie.Need-offset_bounds-formula-own
+offset_bounds-formula-own c = search rules
 
-shared-slice-read-if1 : tie.Need-shared-slice-read-if1
-shared-slice-read-if1 c = search rules
+bounds-formula-own : tie.Need-bounds-formula-own
+bounds-formula-own c = search rules
 
-mul-if1-2 : tie.Need-overflow-mul-if1-2
-mul-if1-2 c = search rules
+offset_bounds-words-at : tie.Need-offset_bounds-words-at
+offset_bounds-words-at c = search rules
 
-shared-slice-read-if1-2 : tie.Need-shared-slice-read-if1-2
-shared-slice-read-if1-2 c = search rules
+bounds-words-at : tie.Need-bounds-words-at
+bounds-words-at c = search rules
 
-add-if2 : tie.Need-overflow-add-if2
-add-if2 c = search rules
+overflow_add-own : tie.Need-overflow_add-own
+overflow_add-own c = search rules
 
-mul-if2 : tie.Need-overflow-mul-if2
-mul-if2 c = search rules
+offset_bounds-formula-own-then-formula-own : tie.Need-offset_bounds-formula-own-then-formula-own
+offset_bounds-formula-own-then-formula-own c = search rules
 
-shared-slice-read-if2 : tie.Need-shared-slice-read-if2
-shared-slice-read-if2 c = search rules
+bounds-formula-own-then-formula-own : tie.Need-bounds-formula-own-then-formula-own
+bounds-formula-own-then-formula-own c = search rules
 
-add-if2-2 : tie.Need-overflow-add-if2-2
-add-if2-2 c = search rules
+overflow_add-at : tie.Need-overflow_add-at
+overflow_add-at c = search rules
 
-mul-if2-2 : tie.Need-overflow-mul-if2-2
-mul-if2-2 c = search rules
+offset_bounds-words-at-then-formula-own : tie.Need-offset_bounds-words-at-then-formula-own
+offset_bounds-words-at-then-formula-own c = search rules
 
-shared-slice-read-if2-2 : tie.Need-shared-slice-read-if2-2
-shared-slice-read-if2-2 c = search rules
+bounds-words-at-then-formula-own : tie.Need-bounds-words-at-then-formula-own
+bounds-words-at-then-formula-own c = search rules
 
-add-result : tie.Need-overflow-add-result
-add-result c = search rules
+overflow_add-result : tie.Need-overflow_add-result
+overflow_add-result c = search rules
 
-mul-result : tie.Need-overflow-mul-result
-mul-result c = search rules
+offset_bounds-formula-own-then-formula-own-2 : tie.Need-offset_bounds-formula-own-then-formula-own-2
+offset_bounds-formula-own-then-formula-own-2 c = search rules
 
-shared-slice-read-result : tie.Need-shared-slice-read-result
-shared-slice-read-result c = search rules
+bounds-formula-own-then-formula-own-2 : tie.Need-bounds-formula-own-then-formula-own-2
+bounds-formula-own-then-formula-own-2 c = search rules
 
-add-result-2 : tie.Need-overflow-add-result-2
-add-result-2 c = search rules
+overflow_add-result-then-formula-own-2 : tie.Need-overflow_add-result-then-formula-own-2
+overflow_add-result-then-formula-own-2 c = search rules
 
-mul-result-2 : tie.Need-overflow-mul-result-2
-mul-result-2 c = search rules
+offset_bounds-words-at-then-formula-own-2 : tie.Need-offset_bounds-words-at-then-formula-own-2
+offset_bounds-words-at-then-formula-own-2 c = search rules
 
-shared-slice-read-result-2 : tie.Need-shared-slice-read-result-2
-shared-slice-read-result-2 c = search rules
+bounds-words-at-then-formula-own-2 : tie.Need-bounds-words-at-then-formula-own-2
+bounds-words-at-then-formula-own-2 c = search rules
 
-returns : tie.Need-returns
-returns c = third_decides _ _ c.before.before.before.before.before.if1.true c.before.before.if2.true
+returns-then-formula-own-2 : tie.Need-returns-then-formula-own-2
+returns-then-formula-own-2 c = third_decides _ _ c.if-formula-own.true c.if-formula-own-2.true
 
-returns-2 : tie.Need-returns-2
-returns-2 c = second_decides _ _ c.before.before.before.if1.true c.if2.false
+returns-else-formula-own-2 : tie.Need-returns-else-formula-own-2
+returns-else-formula-own-2 c = second_decides _ _ c.if-formula-own.true c.if-formula-own-2.false
 
-returns-3 : tie.Need-returns-3
-returns-3 c = first_decides _ _ c.if1.false
+returns-else-formula-own : tie.Need-returns-else-formula-own
+returns-else-formula-own c = first_decides _ _ c.if-formula-own.false
 
 pub is_same_spec : {M : Type 1} → statement M
 is_same_spec =
     tie.close
     (tie.spec
-    mul_at
-    mul-own
-    mul-if1
-    shared-slice-read-if1
-    mul-if1-2
-    shared-slice-read-if1-2
-    add-if2
-    mul-if2
-    shared-slice-read-if2
-    add-if2-2
-    mul-if2-2
-    shared-slice-read-if2-2
-    add-result
-    mul-result
-    shared-slice-read-result
-    add-result-2
-    mul-result-2
-    shared-slice-read-result-2
-    returns
-    returns-2
-    returns-3)
+    overflow_mul-at
+    overflow_mul-own
+    offset_bounds-formula-own
+    bounds-formula-own
+    offset_bounds-words-at
+    bounds-words-at
+    overflow_add-own
+    offset_bounds-formula-own-then-formula-own
+    bounds-formula-own-then-formula-own
+    overflow_add-at
+    offset_bounds-words-at-then-formula-own
+    bounds-words-at-then-formula-own
+    overflow_add-result
+    offset_bounds-formula-own-then-formula-own-2
+    bounds-formula-own-then-formula-own-2
+    overflow_add-result-then-formula-own-2
+    offset_bounds-words-at-then-formula-own-2
+    bounds-words-at-then-formula-own-2
+    returns-then-formula-own-2
+    returns-else-formula-own-2
+    returns-else-formula-own)

@@ -10,67 +10,67 @@ use Rattle.costs.proofs.cost_good.Statement.{statement}
 use Rattle.costs.proofs.cost_good.Tie as tie
 
 -- Places of the code: the entry, seen from where the slots are given; and that place, seen from where no pivot is missing.
-abbrev entry : tie.After-slot → tie.Start
+abbrev entry : tie.After-slot-filled → tie.Start
 entry c = c.before.before.before.before.before.before
 
-abbrev slotted : tie.Else1 → tie.After-slot
+abbrev slotted : tie.Else-missing-ne0 → tie.After-slot-filled
 slotted c = c.before.before.before.before.before
 
-slice-aggregate-slot : tie.Need-slice-aggregate-slot
-slice-aggregate-slot c = search rules
+slice_bounds-slot-end : tie.Need-slice_bounds-slot-end
+slice_bounds-slot-end c = search rules
 
-slice-aggregate-slot-2 : tie.Need-slice-aggregate-slot-2
-slice-aggregate-slot-2 c = search rules
+slice_bounds-slot-end-2 : tie.Need-slice_bounds-slot-end-2
+slice_bounds-slot-end-2 c = search rules
 
-slot-requires : tie.Need-slot-requires
-slot-requires c κs = (rw (one-mul _) c.before.before.before.before.before.requires, (omega arith, (refl, refl)))
+slot-filled-requires : tie.Need-slot-filled-requires
+slot-filled-requires c κs = (rw (one-mul _) c.requires, (omega arith, (refl, refl)))
 
-cast-t15 : tie.Need-overflow-cast-t15
-cast-t15 c = search rules
+overflow_cast-result : tie.Need-overflow_cast-result
+overflow_cast-result c = search rules
 
-same_length : tie.Need-same-length
-same_length c = search rules
+shape_of-work-then-missing-ne0 : tie.Need-shape_of-work-then-missing-ne0
+shape_of-work-then-missing-ne0 c = search rules
 
-returns : tie.Need-returns
-returns c =
+returns-then-missing-ne0 : tie.Need-returns-then-missing-ne0
+returns-then-missing-ne0 c =
     let s = c.before.before.before.before.before in
-    refused-gap _ _ _ (entry s).requires s.slot.ensures c.if1.true
+    refused-gap _ _ _ (entry s).requires s.slot-filled.ensures c.if-missing-ne0.true
 
-most-products-requires : tie.Need-most-products-requires
-most-products-requires c κs = let e = entry (slotted c) in within-range _ _ (orderly-good _ _ _ _ e.pre).0
+most_products-requires : tie.Need-most_products-requires
+most_products-requires c κs = let e = entry (slotted c) in within-range _ _ (orderly-good _ _ _ _ e.pre).0
 
-same-length-2 : tie.Need-same-length-2
-same-length-2 c = search rules
+shape_of-work-then-filled-most_products : tie.Need-shape_of-work-then-filled-most_products
+shape_of-work-then-filled-most_products c = search rules
 
-returns-2 : tie.Need-returns-2
-returns-2 c =
+returns-then-filled-most_products : tie.Need-returns-then-filled-most_products
+returns-then-filled-most_products c =
     let m = c.before.before in
     let e = m.before in
     let s = slotted e in
-    says_yes _ _ _ (entry s).pre s.slot.ensures e.if1.false m.most-products.ensures c.if2.true
+    says_yes _ _ _ (entry s).pre s.slot-filled.ensures e.if-missing-ne0.false m.most_products.ensures c.if-filled-most_products.true
 
-same-length-3 : tie.Need-same-length-3
-same-length-3 c = search rules
+shape_of-work : tie.Need-shape_of-work
+shape_of-work c = search rules
 
-returns-3 : tie.Need-returns-3
+returns-3 : tie.Need-returns
 returns-3 c =
     let m = c.before.before in
     let e = m.before in
     let s = slotted e in
-    says_no _ _ _ (entry s).pre s.slot.ensures e.if1.false m.most-products.ensures c.if2.false
+    says_no _ _ _ (entry s).pre s.slot-filled.ensures e.if-missing-ne0.false m.most_products.ensures c.if-filled-most_products.false
 
 pub cost_good_spec : {M : Type 1} → statement M
 cost_good_spec =
     tie.close
     (tie.spec
-    slice-aggregate-slot
-    slice-aggregate-slot-2
-    slot-requires
-    cast-t15
-    same_length
-    returns
-    most-products-requires
-    same-length-2
-    returns-2
-    same-length-3
+    slice_bounds-slot-end
+    slice_bounds-slot-end-2
+    slot-filled-requires
+    overflow_cast-result
+    shape_of-work-then-missing-ne0
+    returns-then-missing-ne0
+    most_products-requires
+    shape_of-work-then-filled-most_products
+    returns-then-filled-most_products
+    shape_of-work
     returns-3)

@@ -10,23 +10,23 @@ use Rattle.costs.proofs.costs_most.Tie as tie
 check-requires : tie.Need-check-requires
 check-requires c κs = search rules
 
-enum-known-number : tie.Need-enum-known-number
-enum-known-number c = search rules
+enum_known-number : tie.Need-enum_known-number
+enum_known-number c = search rules
 
-enum_told : tie.Need-enum-told
-enum_told c = search rules
+enum_told-1 : tie.Need-enum_told-1
+enum_told-1 c = search rules
 
-cost-good-requires : tie.Need-cost-good-requires
-cost-good-requires c κs = rw (one-mul _) at (sym c.before.before.before.check.ensures ∙ ap labels_of c.before.enum_told.given.1)
+cost_good-requires : tie.Need-cost_good-requires
+cost_good-requires c κs = rw (one-mul _) at (sym c.check.ensures ∙ ap labels_of c.enum_told-1.given.1)
 
-returns : tie.Need-returns
-returns c = refused-early _ _ _ (rw (one-mul _) at (sym c.before.before.before.check.ensures ∙ ap labels_of c.before.number.given.1))
+returns-in-Bad : tie.Need-returns-in-Bad
+returns-in-Bad c = refused-early _ _ _ (rw (one-mul _) at (sym c.check.ensures ∙ ap labels_of c.number-1.given.1))
 
-same_length : tie.Need-same-length
-same_length c = search rules
+shape_of-work : tie.Need-shape_of-work
+shape_of-work c = search rules
 
-returns-2 : tie.Need-returns-2
-returns-2 c = search rules
+returns-in-Good : tie.Need-returns-in-Good
+returns-in-Good c = search rules
 
 pub costs_most_spec : {M : Type 1} → statement M
-costs_most_spec = tie.close (tie.spec check-requires enum-known-number enum_told cost-good-requires returns same_length returns-2)
+costs_most_spec = tie.close (tie.spec check-requires enum_known-number enum_told-1 cost_good-requires returns-in-Bad shape_of-work returns-in-Good)

@@ -7,31 +7,31 @@ use Rattle.digits.proofs.Fields.{not_nan, exact_small, exact-large}
 use Rattle.digits.proofs.parts.Statement.{statement}
 use Rattle.digits.proofs.parts.Tie as tie
 
-float-to-bits-bits : tie.Need-float-to-bits-bits
-float-to-bits-bits c = not_nan _ c.requires
+float_to_bits-bits : tie.Need-float_to_bits-bits
+float_to_bits-bits c = not_nan _ c.requires
 
-returns : tie.Need-returns
-returns c = record {
-  value = exact_small _ (passes _ c.before.well-formed.0.1) c.if1.true;
+returns-then-exponent-eq0 : tie.Need-returns-then-exponent-eq0
+returns-then-exponent-eq0 c = record {
+  value = exact_small _ (passes _ c.well_formed.0.1) c.if-exponent-eq0.true;
   few = omega arith;
   near = omega arith;
 }
 
-add-t6 : tie.Need-overflow-add-t6
-add-t6 c = search rules
+overflow_add-result : tie.Need-overflow_add-result
+overflow_add-result c = search rules
 
-cast-t8 : tie.Need-overflow-cast-t8
-cast-t8 c = search rules
+overflow_cast-result : tie.Need-overflow_cast-result
+overflow_cast-result c = search rules
 
-sub-t9 : tie.Need-overflow-sub-t9
-sub-t9 c = search rules
+overflow_sub-result : tie.Need-overflow_sub-result
+overflow_sub-result c = search rules
 
-returns-2 : tie.Need-returns-2
+returns-2 : tie.Need-returns
 returns-2 c = record {
-  value = exact-large _ (passes _ c.before.well-formed.0.1) c.before.requires c.if1.false;
+  value = exact-large _ (passes _ c.well_formed.0.1) c.requires c.if-exponent-eq0.false;
   few = omega arith;
   near = omega arith;
 }
 
 pub parts_spec : {M : Type 1} → statement M
-parts_spec = tie.close (tie.spec float-to-bits-bits returns add-t6 cast-t8 sub-t9 returns-2)
+parts_spec = tie.close (tie.spec float_to_bits-bits returns-then-exponent-eq0 overflow_add-result overflow_cast-result overflow_sub-result returns-2)

@@ -18,26 +18,26 @@ alone false = refl
 bit-requires : tie.Need-bit-requires
 bit-requires c κs = search rules
 
-returns : tie.Need-returns
-returns c = (
-  rw (not-true c.before.before.args.first c.before.if1.true) (c.bit.ensures ∙ alone c.before.before.args.second),
-  omega (arith, c.bit.ensures, at_most_one c.before.before.args.second),
+returns-then-not-first : tie.Need-returns-then-not-first
+returns-then-not-first c = (
+  rw (not-true c.args.first c.if-not-first.true) (c.bit.ensures ∙ alone c.args.second),
+  omega (arith, c.bit.ensures, at_most_one c.args.second),
 )
 
-returns-2 : tie.Need-returns-2
-returns-2 c = (rw (not-false c.before.before.args.first c.before.if1.false, c.if2.true), omega arith)
+returns-then-second : tie.Need-returns-then-second
+returns-then-second c = (rw (not-false c.args.first c.if-not-first.false, c.if-second.true), omega arith)
 
 bit-requires-2 : tie.Need-bit-requires-2
 bit-requires-2 c κs = search rules
 
-add-result : tie.Need-overflow-add-result
-add-result c = omega (arith, c.bit2.ensures, at_most_one c.before.before.before.args.linked)
+overflow_add-result : tie.Need-overflow_add-result
+overflow_add-result c = omega (arith, c.bit-2.ensures, at_most_one c.args.linked)
 
-returns-3 : tie.Need-returns-3
+returns-3 : tie.Need-returns
 returns-3 c = (
-  rw (not-false c.before.before.before.args.first c.before.before.if1.false, c.before.if2.false) (ap (λ k. 1 + k) c.bit2.ensures),
-  omega (arith, c.bit2.ensures, at_most_one c.before.before.before.args.linked),
+  rw (not-false c.args.first c.if-not-first.false, c.if-second.false) (ap (λ k. 1 + k) c.bit-2.ensures),
+  omega (arith, c.bit-2.ensures, at_most_one c.args.linked),
 )
 
 pub pair_spec : {M : Type 1} → statement M
-pair_spec = tie.close (tie.spec bit-requires returns returns-2 bit-requires-2 add-result returns-3)
+pair_spec = tie.close (tie.spec bit-requires returns-then-not-first returns-then-second bit-requires-2 overflow_add-result returns-3)

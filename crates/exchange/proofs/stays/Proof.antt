@@ -11,29 +11,29 @@ use Rattle.exchange.proofs.stays.Statement.{statement}
 use Rattle.exchange.proofs.stays.Tie as tie
 
 -- where both are known, with the entry before it
-abbrev entry : tie.After-column-of → tie.Start
+abbrev entry : tie.After-column_of-j → tie.Start
 entry c = c.before.before.before.before.before.before.before
 
-line : (c : tie.After-column-of) → let a = (entry c).args in
-    (c.before.row_of.result ≡ row_of a.across (suc a.t) a.k) × (c.column-of.result ≡ column_of a.across (suc a.t) a.k)
+line : (c : tie.After-column_of-j) → let a = (entry c).args in
+    (c.row_of-i.result ≡ row_of a.across (suc a.t) a.k) × (c.column_of-j.result ≡ column_of a.across (suc a.t) a.k)
 line c =
     let a = (entry c).args in
-    (c.before.row_of.ensures ∙ ap (λ m. row_of a.across m a.k) (add-one a.t), c.column-of.ensures ∙ ap (λ m. column_of a.across m a.k) (add-one a.t))
+    (c.row_of-i.ensures ∙ ap (λ m. row_of a.across m a.k) (add-one a.t), c.column_of-j.ensures ∙ ap (λ m. column_of a.across m a.k) (add-one a.t))
 
-add-row-of : tie.Need-overflow-add-row-of
-add-row-of c = search rules
+overflow_add-t : tie.Need-overflow_add-t
+overflow_add-t c = search rules
 
-row-of-requires : tie.Need-row-of-requires
-row-of-requires c κs = search rules
+row_of-i-requires : tie.Need-row_of-i-requires
+row_of-i-requires c κs = search rules
 
-add-column-of : tie.Need-overflow-add-column-of
-add-column-of c = search rules
+overflow_add-t-2 : tie.Need-overflow_add-t-2
+overflow_add-t-2 c = search rules
 
-column-of-requires : tie.Need-column-of-requires
-column-of-requires c κs = search rules
+column_of-j-requires : tie.Need-column_of-j-requires
+column_of-j-requires c κs = search rules
 
-is-older-requires : tie.Need-is-older-requires
-is-older-requires c κs =
+is_older-requires : tie.Need-is_older-requires
+is_older-requires c κs =
     let p = (entry c).requires in
     let l = line c in
     (p.0, (p.1.0, named l.0 l.1 p.1.1))
@@ -44,15 +44,15 @@ is-older-requires c κs =
 returns : tie.Need-returns
 returns c =
     let l = line c.before in
-    c.is-older.ensures ∙ ap₂ (reach _ _ _) l.0 l.1
+    c.is_older.ensures ∙ ap₂ (reach _ _ _) l.0 l.1
 
 pub stays_spec : {M : Type 1} → statement M
 stays_spec =
     tie.close
     (tie.spec
-    add-row-of
-    row-of-requires
-    add-column-of
-    column-of-requires
-    is-older-requires
+    overflow_add-t
+    row_of-i-requires
+    overflow_add-t-2
+    column_of-j-requires
+    is_older-requires
     returns)

@@ -5,65 +5,65 @@ use Rattle.labels.proofs.Seeking.{Seeking, seek_from, more, next-batch, held_the
 use Rattle.labels.proofs.batch_of.Statement.{statement}
 use Rattle.labels.proofs.batch_of.Tie as tie
 
-abbrev invariant-loop : tie.invariant-loop
-invariant-loop n k number₀ left₀ size₀ number left size = Seeking n k number left size
+abbrev invariant-loop-size : tie.invariant-loop-size
+invariant-loop-size n k number₀ left₀ size₀ number left size = Seeking n k number left size
 
-abbrev decreases-loop : tie.decreases-loop
-decreases-loop n k number₀ left₀ size₀ number left size = left
+abbrev decreases-loop-size : tie.decreases-loop-size
+decreases-loop-size n k number₀ left₀ size₀ number left size = left
 
-sub-left : tie.Need-overflow-sub-left invariant-loop decreases-loop
-sub-left c = search rules
+overflow_sub-left : tie.Need-overflow_sub-left invariant-loop-size decreases-loop-size
+overflow_sub-left c = search rules
 
-sub-size : tie.Need-overflow-sub-size invariant-loop decreases-loop
-sub-size c = search rules
+overflow_sub-size : tie.Need-overflow_sub-size invariant-loop-size decreases-loop-size
+overflow_sub-size c = search rules
 
-mul-size : tie.Need-overflow-mul-size invariant-loop decreases-loop
-mul-size c = search rules
+overflow_mul-size : tie.Need-overflow_mul-size invariant-loop-size decreases-loop-size
+overflow_mul-size c = search rules
 
-add-size : tie.Need-overflow-add-size invariant-loop decreases-loop
-add-size c = search rules
+overflow_add-size : tie.Need-overflow_add-size invariant-loop-size decreases-loop-size
+overflow_add-size c = search rules
 
-loop-holds : tie.Need-loop-init invariant-loop decreases-loop
-loop-holds c = seek_from c.before.requires.1
+loop-holds : tie.Need-loop-size-init invariant-loop-size decreases-loop-size
+loop-holds c = seek_from c.requires.1
 
-sub-left-2 : tie.Need-overflow-sub-left-2 invariant-loop decreases-loop
-sub-left-2 c = search rules
+overflow_sub-left-in-loop-size : tie.Need-overflow_sub-left-in-loop-size invariant-loop-size decreases-loop-size
+overflow_sub-left-in-loop-size c = search rules
 
-sub-size-2 : tie.Need-overflow-sub-size-2 invariant-loop decreases-loop
-sub-size-2 c =
-    let l = c.before.loop.invariant in
-    omega (arith, l.size_is, more l c.before.before.before.requires.0.1 c.loop-test.true)
+overflow_sub-size-in-loop-size : tie.Need-overflow_sub-size-in-loop-size invariant-loop-size decreases-loop-size
+overflow_sub-size-in-loop-size c =
+    let l = c.loop-size.invariant in
+    omega (arith, l.size_is, more l c.requires.0.1 c.loop-size-test.true)
 
-add-number : tie.Need-overflow-add-number invariant-loop decreases-loop
-add-number c = search rules
+overflow_add-number : tie.Need-overflow_add-number invariant-loop-size decreases-loop-size
+overflow_add-number c = search rules
 
-loop-less : tie.Need-loop-smaller invariant-loop decreases-loop
+loop-less : tie.Need-loop-size-smaller invariant-loop-size decreases-loop-size
 loop-less c = search rules
 
-loop-again : tie.Need-loop-preserved invariant-loop decreases-loop
-loop-again c = next-batch c.before.loop.invariant c.before.before.before.requires.0.1 c.loop-test.true
+loop-again : tie.Need-loop-size-preserved invariant-loop-size decreases-loop-size
+loop-again c = next-batch c.loop-size.invariant c.requires.0.1 c.loop-size-test.true
 
-sub-t7 : tie.Need-overflow-sub-t7 invariant-loop decreases-loop
-sub-t7 c = search rules
+overflow_sub-result : tie.Need-overflow_sub-result invariant-loop-size decreases-loop-size
+overflow_sub-result c = search rules
 
-returns : tie.Need-returns invariant-loop decreases-loop
-returns c = held_there c.before.loop.invariant c.loop-test.false
+returns : tie.Need-returns invariant-loop-size decreases-loop-size
+returns c = held_there c.loop-size.invariant c.loop-size-test.false
 
 pub batch_of_spec : {M : Type 1} → statement M
 batch_of_spec =
     tie.close
     (tie.spec
-    invariant-loop
-    decreases-loop
-    sub-left
-    sub-size
-    mul-size
-    add-size
+    invariant-loop-size
+    decreases-loop-size
+    overflow_sub-left
+    overflow_sub-size
+    overflow_mul-size
+    overflow_add-size
     loop-holds
-    sub-left-2
-    sub-size-2
-    add-number
+    overflow_sub-left-in-loop-size
+    overflow_sub-size-in-loop-size
+    overflow_add-number
     loop-less
     loop-again
-    sub-t7
+    overflow_sub-result
     returns)

@@ -12,39 +12,39 @@ use Rattle.labels.proofs.label.Tie as tie
 within-requires : tie.Need-within-requires
 within-requires c κs = search rules
 
-within-requires-2 : tie.Need-within-requires-2
-within-requires-2 c κs = search rules
+within-requires-then-within : tie.Need-within-requires-then-within
+within-requires-then-within c κs = search rules
 
-within-requires-3 : tie.Need-within-requires-3
-within-requires-3 c κs = search rules
+within-requires-then-within-2 : tie.Need-within-requires-then-within-2
+within-requires-then-within-2 c κs = search rules
 
-in_range : (c : tie.Then3) → let a = c.before.before.before.before.before.before.args in true ≡ is_place a.n a.i a.j
+in_range : (c : tie.Then-within-3) → let a = c.args in true ≡ is_place a.n a.i a.j
 in_range c =
-    is_place_is _ _ _ (sym c.before.before.before.before.if1.true ∙ c.before.before.before.before.before.within.ensures)
-    (sym c.before.before.if2.true ∙ c.before.before.before.within2.ensures) (sym c.if3.true ∙ c.before.within3.ensures)
+    is_place_is _ _ _ (sym c.if-within.true ∙ c.within.ensures)
+    (sym c.if-within-2.true ∙ c.within-then-within.ensures) (sym c.if-within-3.true ∙ c.within-then-within-2.ensures)
 
-label-within-requires : tie.Need-label-within-requires
-label-within-requires c κs = omega (arith, is_place_true _ _ _ (in_range c))
+label_within-requires : tie.Need-label_within-requires
+label_within-requires c κs = omega (arith, is_place_true _ _ _ (in_range c))
 
-returns : tie.Need-returns
-returns c = c.label-within.ensures ∙ label_number_is _ _ _ (in_range c.before)
+returns-then-within-3 : tie.Need-returns-then-within-3
+returns-then-within-3 c = c.label_within.ensures ∙ label_number_is _ _ _ (in_range c.before)
 
-returns-2 : tie.Need-returns-2
-returns-2 c =
-    let order = c.before.within.ensures in
+returns-else-within : tie.Need-returns-else-within
+returns-else-within c =
+    let order = c.within.ensures in
     label_number_is _ _ _
     (⊎_elim (λ w. is_place_is _ _ _ (sym w.0.taken ∙ order) (sym w.2.taken ∙ w.1.ensures) (sym w.4.left ∙ w.3.ensures))
     (⊎_elim (λ w. is_place_is _ _ _ (sym w.0.taken ∙ order) (sym w.2.left ∙ w.1.ensures) refl)
     (λ w. is_place_is _ _ _ (sym w.left ∙ order) refl refl))
-    c.if1.branch)
+    c.else-within.branch)
 
 pub label_spec : {M : Type 1} → statement M
 label_spec =
     tie.close
     (tie.spec
     within-requires
-    within-requires-2
-    within-requires-3
-    label-within-requires
-    returns
-    returns-2)
+    within-requires-then-within
+    within-requires-then-within-2
+    label_within-requires
+    returns-then-within-3
+    returns-else-within)

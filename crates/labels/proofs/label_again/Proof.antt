@@ -9,24 +9,24 @@ use Rattle.labels.proofs.label_again.Tie as tie
 place-requires : tie.Need-place-requires
 place-requires c κs = search rules
 
-enum-known-i : tie.Need-enum-known-i
-enum-known-i c = search rules
+enum_known-i : tie.Need-enum_known-i
+enum_known-i c = search rules
 
 label-requires : tie.Need-label-requires
 label-requires c κs = search rules
 
-enum_told : tie.Need-enum-told
-enum_told c = search rules
+enum_told-1 : tie.Need-enum_told-1
+enum_told-1 c = search rules
 
-returns : tie.Need-returns
-returns c =
-    let found = c.before.before.before.before.place.ensures in
-    c.label.ensures ∙ ap (label_of _) (sym (ap sought_of c.before.before.i.given.1) ∙ found) ∙ label-again _ _
+returns-in-At : tie.Need-returns-in-At
+returns-in-At c =
+    let found = c.place.ensures in
+    c.label.ensures ∙ ap (label_of _) (sym (ap sought_of c.i-1.given.1) ∙ found) ∙ label-again _ _
 
-returns-2 : tie.Need-returns-2
-returns-2 c =
-    ap (label_of _) (sym (ap sought_of c.enum_told.given.1) ∙ c.before.before.place.ensures) ∙ label-again _ _
+returns-in-Outside : tie.Need-returns-in-Outside
+returns-in-Outside c =
+    ap (label_of _) (sym (ap sought_of c.enum_told-1.given.1) ∙ c.place.ensures) ∙ label-again _ _
 
 pub label_again_spec : {M : Type 1} → statement M
 label_again_spec =
-    tie.close (tie.spec place-requires enum-known-i label-requires enum_told returns returns-2)
+    tie.close (tie.spec place-requires enum_known-i label-requires enum_told-1 returns-in-At returns-in-Outside)

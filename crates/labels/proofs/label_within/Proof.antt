@@ -11,65 +11,65 @@ use Rattle.labels.proofs.label_within.Tie as tie
 product_small : (a b : ℕ) → a ≤ 600 → b ≤ 1200 → a * b ≤ 720000
 product_small a b low high = omega (arith, mul-le-mul {n₁ = a} {m₁ = b} {n₂ = 600} {m₂ = 1200} low high)
 
-lower_small : (c : tie.Then1) → let a = c.before.args in (a.j - 1) * (2 * a.n - a.j) ≤ 720000
+lower_small : (c : tie.Then-j-i) → let a = c.args in (a.j - 1) * (2 * a.n - a.j) ≤ 720000
 lower_small c = product_small _ _ (omega arith) (omega arith)
 
-upper_small : (c : tie.Else1) → let a = c.before.args in a.i * (2 * a.n - a.i) ≤ 720000
+upper_small : (c : tie.Else-j-i) → let a = c.args in a.i * (2 * a.n - a.i) ≤ 720000
 upper_small c = product_small _ _ (omega arith) (omega arith)
 
-sub-result : tie.Need-overflow-sub-result
-sub-result c = search rules
+overflow_sub-result : tie.Need-overflow_sub-result
+overflow_sub-result c = search rules
 
-mul-result : tie.Need-overflow-mul-result
-mul-result c = search rules
+overflow_mul-result : tie.Need-overflow_mul-result
+overflow_mul-result c = search rules
 
-sub-result-2 : tie.Need-overflow-sub-result-2
-sub-result-2 c = search rules
+overflow_sub-result-then-j-i : tie.Need-overflow_sub-result-then-j-i
+overflow_sub-result-then-j-i c = search rules
 
-mul-result-2 : tie.Need-overflow-mul-result-2
-mul-result-2 c = omega (arith, lower_small c)
+overflow_mul-result-then-j-i : tie.Need-overflow_mul-result-then-j-i
+overflow_mul-result-then-j-i c = omega (arith, lower_small c)
 
-add-result : tie.Need-overflow-add-result
-add-result c = omega (arith, lower_small c)
+overflow_add-result : tie.Need-overflow_add-result
+overflow_add-result c = omega (arith, lower_small c)
 
-mul-result-3 : tie.Need-overflow-mul-result-3
-mul-result-3 c = search rules
+overflow_mul-result-else-j-i : tie.Need-overflow_mul-result-else-j-i
+overflow_mul-result-else-j-i c = search rules
 
-sub-result-3 : tie.Need-overflow-sub-result-3
-sub-result-3 c = search rules
+overflow_sub-result-else-j-i : tie.Need-overflow_sub-result-else-j-i
+overflow_sub-result-else-j-i c = search rules
 
-mul-result-4 : tie.Need-overflow-mul-result-4
-mul-result-4 c = omega (arith, upper_small c)
+overflow_mul-result-else-j-i-2 : tie.Need-overflow_mul-result-else-j-i-2
+overflow_mul-result-else-j-i-2 c = omega (arith, upper_small c)
 
-sub-result-4 : tie.Need-overflow-sub-result-4
-sub-result-4 c =
-    let a = c.before.args in
+overflow_sub-result-else-j-i-2 : tie.Need-overflow_sub-result-else-j-i-2
+overflow_sub-result-else-j-i-2 c =
+    let a = c.args in
     omega (arith, mul-le-mul {n₁ = 1} {m₁ = a.n} {n₂ = a.i} {m₂ = 2 * a.n - a.i} (omega arith) (omega arith))
 
-add-result-2 : tie.Need-overflow-add-result-2
-add-result-2 c = omega (arith, upper_small c)
+overflow_add-result-else-j-i : tie.Need-overflow_add-result-else-j-i
+overflow_add-result-else-j-i c = omega (arith, upper_small c)
 
-returns : tie.Need-returns
+returns-then-j-i : tie.Need-returns-then-j-i
 unfolding label
-returns c = rw (le-leb c.before.args.j c.before.args.i (omega arith))
+returns-then-j-i c = rw (le-leb c.args.j c.args.i (omega arith))
 
-returns-2 : tie.Need-returns-2
+returns-else-j-i : tie.Need-returns-else-j-i
 unfolding label
-returns-2 c = rw (lt-leb c.before.args.j c.before.args.i (omega arith))
+returns-else-j-i c = rw (lt-leb c.args.j c.args.i (omega arith))
 
-pub label-within_spec : {M : Type 1} → statement M
-label-within_spec =
+pub label_within_spec : {M : Type 1} → statement M
+label_within_spec =
     tie.close
     (tie.spec
-    sub-result
-    mul-result
-    sub-result-2
-    mul-result-2
-    add-result
-    mul-result-3
-    sub-result-3
-    mul-result-4
-    sub-result-4
-    add-result-2
-    returns
-    returns-2)
+    overflow_sub-result
+    overflow_mul-result
+    overflow_sub-result-then-j-i
+    overflow_mul-result-then-j-i
+    overflow_add-result
+    overflow_mul-result-else-j-i
+    overflow_sub-result-else-j-i
+    overflow_mul-result-else-j-i-2
+    overflow_sub-result-else-j-i-2
+    overflow_add-result-else-j-i
+    returns-then-j-i
+    returns-else-j-i)

@@ -13,7 +13,7 @@ place-requires : tie.Need-place-requires
 place-requires c κs = search rules
 
 returns : tie.Need-returns
-returns c = c.place.ensures ∙ ap (sought _) c.before.label.ensures ∙ place-again _ _ _
+returns c = c.place.ensures ∙ ap (sought _) c.label.ensures ∙ place-again _ _ _
 
 pub place_again_spec : {M : Type 1} → statement M
 place_again_spec = tie.close (tie.spec label-requires place-requires returns)

@@ -8,16 +8,16 @@ use Rattle.labels.proofs.Seeking.{first-batch}
 use Rattle.labels.proofs.place_within.Statement.{statement}
 use Rattle.labels.proofs.place_within.Tie as tie
 
-batch-of-requires : tie.Need-batch-of-requires
-batch-of-requires c κs = let p = c.requires in ((p.0.1, p.1.1), first-batch _ _ p.0.0 p.1.0)
+batch_of-requires : tie.Need-batch_of-requires
+batch_of-requires c κs = let p = c.requires in ((p.0.1, p.1.1), first-batch _ _ p.0.0 p.1.0)
 
-place-in-requires : tie.Need-place-in-requires
-place-in-requires c κs = search rules
+place_in-place-requires : tie.Need-place_in-place-requires
+place_in-place-requires c κs = search rules
 
 returns : tie.Need-returns
 returns c =
     let found = c.IsPlace-in.ensures in
     ap at (sym (place_of_label _ _ _ found.0) ∙ ap (place _) found.1)
 
-pub place-within_spec : {M : Type 1} → statement M
-place-within_spec = tie.close (tie.spec batch-of-requires place-in-requires returns)
+pub place_within_spec : {M : Type 1} → statement M
+place_within_spec = tie.close (tie.spec batch_of-requires place_in-place-requires returns)

@@ -11,222 +11,222 @@ use Rattle.many.proofs.Passing.{Turn, few-records, some_words, starts, inside, r
 use Rattle.many.proofs.pass.Statement.{statement}
 use Rattle.many.proofs.pass.Tie as tie
 
-abbrev invariant-loop : tie.invariant-loop
-invariant-loop words count a b limit c₀ y₀ x₀ running₀ out₀ order z₀ records₀ next₀ c y x running out z records next =
+abbrev invariant-loop-next : tie.invariant-loop-next
+invariant-loop-next words count a b limit c₀ y₀ x₀ running₀ out₀ order z₀ records₀ next₀ c y x running out z records next =
     (order ≡ word words 0) × Turn words count a b limit out₀ c y x running out z records next
 
-abbrev decreases-loop : tie.decreases-loop
-decreases-loop words count a b limit c₀ y₀ x₀ running₀ out₀ order z₀ records₀ next₀ c y x running out z records next = length words / 4 - records
+abbrev decreases-loop-next : tie.decreases-loop-next
+decreases-loop-next words count a b limit c₀ y₀ x₀ running₀ out₀ order z₀ records₀ next₀ c y x running out z records next = length words / 4 - records
 
 -- Places of the code: the entry, seen from where the order is read; the loop's head, with the entry before it; a turn; where the turn's step is made; and
 -- where it is known whether a side goes on.
-abbrev entry : tie.After-shared-slice-known4 invariant-loop decreases-loop → tie.Start invariant-loop decreases-loop
+abbrev entry : tie.After-shared_slice_known-4-1 invariant-loop-next decreases-loop-next → tie.Start invariant-loop-next decreases-loop-next
 entry c = c.before.before.before.before.before.before.before.before.before
 
-abbrev start : tie.At-loop invariant-loop decreases-loop → tie.Start invariant-loop decreases-loop
+abbrev start : tie.At-loop-next invariant-loop-next decreases-loop-next → tie.Start invariant-loop-next decreases-loop-next
 start c = entry c.before.before.before.before.before
 
 abbrev Inside : Type 0
-Inside = tie.In-loop invariant-loop decreases-loop
+Inside = tie.In-loop-next invariant-loop-next decreases-loop-next
 
 abbrev Stepped : Type 0
-Stepped = tie.After-step invariant-loop decreases-loop
+Stepped = tie.After-step-z invariant-loop-next decreases-loop-next
 
 abbrev turn : Stepped → Inside
 turn c = c.before.before.before.before.before.before.before.before.before
 
 abbrev Asked : Type 0
-Asked = tie.After-any-going invariant-loop decreases-loop
+Asked = tie.After-any_going invariant-loop-next decreases-loop-next
 
 abbrev stepped : Asked → Stepped
-stepped c = c.before.before.before.before.before.before.before.before.before.before.before.before
+stepped c = c.before.before.before.before.before.before.before.before.before.before.before
 
 -- the turn's record stands within the words, which are few
 bounds : (c : Inside) → let records = length (start c.before).args.words.now / 4 in
-    (c.before.loop.next < records) × (records ≤ 100000000) × (c.before.loop.records < c.before.loop.next)
+    (c.loop-next.next < records) × (records ≤ 100000000) × (c.loop-next.records < c.loop-next.next)
 bounds c =
-    let within = inside c.before.loop.invariant.1 c.loop-test.true in
+    let within = inside c.loop-next.invariant.1 c.loop-next-test.true in
     (within.0, few-records (start c.before).pre.0, within.1)
 
 -- the tables and numbers have the lengths after the step that they had before it
-same_tables : (c : Stepped) → let l = (turn c).before.loop in let after = c.step.new.1.1.1.1.1.1.1.1.1.1 in
+same_tables : (c : Stepped) → let l = (turn c).before.loop in let after = c.step-z.new.1.1.1.1.1.1.1.1.1.1 in
     SameLengths l.c l.y l.x after.0 after.1.0 after.1.1.0
-same_tables c = let kept = c.step.auto.1.1.1.1.1.1.1.1.1.1 in record { of_c = kept.0; of_y = kept.1.0; of_x = kept.1.1.0 }
+same_tables c = let kept = c.step-z.auto.1.1.1.1.1.1.1.1.1.1 in record { of_c = kept.0; of_y = kept.1.0; of_x = kept.1.1.0 }
 
-in_running : (c : Stepped) → length c.step.new.1.1.1.1.1.1.1.1.1.1.1.1.1.0 ≡ length (turn c).before.loop.running
-in_running c = c.step.auto.1.1.1.1.1.1.1.1.1.1.1.1.1.0
+in_running : (c : Stepped) → length c.step-z.new.1.1.1.1.1.1.1.1.1.1.1.1.1.0 ≡ length (turn c).before.loop.running
+in_running c = c.step-z.auto.1.1.1.1.1.1.1.1.1.1.1.1.1.0
 
-in_out : (c : Stepped) → length c.step.new.1.1.1.1.1.1.1.1.1.1.1.1.1.1.0 ≡ length (turn c).before.loop.out
-in_out c = c.step.auto.1.1.1.1.1.1.1.1.1.1.1.1.1.1.0
+in_out : (c : Stepped) → length c.step-z.new.1.1.1.1.1.1.1.1.1.1.1.1.1.1.0 ≡ length (turn c).before.loop.out
+in_out c = c.step-z.auto.1.1.1.1.1.1.1.1.1.1.1.1.1.1.0
 
-shared-slice-read-wide : tie.Need-shared-slice-read-wide invariant-loop decreases-loop
-shared-slice-read-wide c = omega (arith, some_words (entry c).requires.0)
+bounds-words-0 : tie.Need-bounds-words-0 invariant-loop-next decreases-loop-next
+bounds-words-0 c = omega (arith, some_words (entry c).requires.0)
 
-wide-requires : tie.Need-wide-requires invariant-loop decreases-loop
-wide-requires c κs = search rules
+wide-order-requires : tie.Need-wide-order-requires invariant-loop-next decreases-loop-next
+wide-order-requires c κs = search rules
 
-fresh-requires : tie.Need-fresh-requires invariant-loop decreases-loop
-fresh-requires c κs = search rules
+fresh-z-requires : tie.Need-fresh-z-requires invariant-loop-next decreases-loop-next
+fresh-z-requires c κs = search rules
 
-shared-slice-read-wide-2 : tie.Need-shared-slice-read-wide-2 invariant-loop decreases-loop
-shared-slice-read-wide-2 c = omega (arith, some_words (entry c.before.before.before).pre.0)
+bounds-words-3 : tie.Need-bounds-words-3 invariant-loop-next decreases-loop-next
+bounds-words-3 c = omega (arith, some_words (entry c.before.before.before).pre.0)
 
-wide-requires-2 : tie.Need-wide-requires-2 invariant-loop decreases-loop
-wide-requires-2 c κs = search rules
+wide-next-requires : tie.Need-wide-next-requires invariant-loop-next decreases-loop-next
+wide-next-requires c κs = search rules
 
-loop-holds : tie.Need-loop-init invariant-loop decreases-loop
+loop-holds : tie.Need-loop-next-init invariant-loop-next decreases-loop-next
 loop-holds c =
     let p = (entry c.before.before.before.before).pre in
-    (c.before.before.before.wide.ensures, starts p.0 p.1.0 p.1.1 c.before.before.fresh.ensures c.wide2.ensures)
+    (c.wide-order.ensures, starts p.0 p.1.0 p.1.1 c.fresh-z.ensures c.wide-next.ensures)
 
-mul_at : tie.Need-overflow-mul-at invariant-loop decreases-loop
-mul_at c = omega (arith, bounds c)
+overflow_mul-at : tie.Need-overflow_mul-at invariant-loop-next decreases-loop-next
+overflow_mul-at c = omega (arith, bounds c)
 
-cast-step : tie.Need-overflow-cast-step invariant-loop decreases-loop
-cast-step c = omega (arith, bounds c)
+overflow_cast-next : tie.Need-overflow_cast-next invariant-loop-next decreases-loop-next
+overflow_cast-next c = omega (arith, bounds c)
 
-mul-step : tie.Need-overflow-mul-step invariant-loop decreases-loop
-mul-step c = omega (arith, bounds c)
+offset_bounds-words-at : tie.Need-offset_bounds-words-at invariant-loop-next decreases-loop-next
+offset_bounds-words-at c = omega (arith, bounds c)
 
-shared-slice-read-step : tie.Need-shared-slice-read-step invariant-loop decreases-loop
-shared-slice-read-step c = omega (arith, bounds c.before)
+bounds-words-at : tie.Need-bounds-words-at invariant-loop-next decreases-loop-next
+bounds-words-at c = omega (arith, bounds c.before)
 
-add_step : tie.Need-overflow-add-step invariant-loop decreases-loop
-add_step c = omega (arith, bounds c.before)
+overflow_add-at : tie.Need-overflow_add-at invariant-loop-next decreases-loop-next
+overflow_add-at c = omega (arith, bounds c.before)
 
-mul-step-2 : tie.Need-overflow-mul-step-2 invariant-loop decreases-loop
-mul-step-2 c = omega (arith, bounds c.before)
+offset_bounds-words-at-in-loop-next : tie.Need-offset_bounds-words-at-in-loop-next invariant-loop-next decreases-loop-next
+offset_bounds-words-at-in-loop-next c = omega (arith, bounds c.before)
 
-shared-slice-read-step-2 : tie.Need-shared-slice-read-step-2 invariant-loop decreases-loop
-shared-slice-read-step-2 c = omega (arith, bounds c.before.before)
+bounds-words-at-in-loop-next : tie.Need-bounds-words-at-in-loop-next invariant-loop-next decreases-loop-next
+bounds-words-at-in-loop-next c = omega (arith, bounds c.before.before)
 
-add-step-2 : tie.Need-overflow-add-step-2 invariant-loop decreases-loop
-add-step-2 c = omega (arith, bounds c.before.before)
+overflow_add-at-in-loop-next : tie.Need-overflow_add-at-in-loop-next invariant-loop-next decreases-loop-next
+overflow_add-at-in-loop-next c = omega (arith, bounds c.before.before)
 
-mul-step-3 : tie.Need-overflow-mul-step-3 invariant-loop decreases-loop
-mul-step-3 c = omega (arith, bounds c.before.before)
+offset_bounds-words-at-in-loop-next-2 : tie.Need-offset_bounds-words-at-in-loop-next-2 invariant-loop-next decreases-loop-next
+offset_bounds-words-at-in-loop-next-2 c = omega (arith, bounds c.before.before)
 
-shared-slice-read-step-3 : tie.Need-shared-slice-read-step-3 invariant-loop decreases-loop
-shared-slice-read-step-3 c = omega (arith, bounds c.before.before.before)
+bounds-words-at-in-loop-next-2 : tie.Need-bounds-words-at-in-loop-next-2 invariant-loop-next decreases-loop-next
+bounds-words-at-in-loop-next-2 c = omega (arith, bounds c.before.before.before)
 
-step-requires : tie.Need-step-requires invariant-loop decreases-loop
-step-requires c κs =
+step-z-requires : tie.Need-step-z-requires invariant-loop-next decreases-loop-next
+step-z-requires c κs =
     let t = c.before.before.before.before.before.before.before.before in
-    let inv = t.before.loop.invariant in
-    ready inv.1 t.loop-test.true inv.0
+    let inv = t.loop-next.invariant in
+    ready inv.1 t.loop-next-test.true inv.0
 
-add-records : tie.Need-overflow-add-records invariant-loop decreases-loop
-add-records c =
+overflow_add-records : tie.Need-overflow_add-records invariant-loop-next decreases-loop-next
+overflow_add-records c =
     omega (arith, bounds (turn c.before.before.before.before.before.before.before.before.before.before))
 
-any-going-requires : tie.Need-any-going-requires invariant-loop decreases-loop
-any-going-requires c κs =
+any_going-requires : tie.Need-any_going-requires invariant-loop-next decreases-loop-next
+any_going-requires c κs =
     let s = c.before.before.before.before.before.before.before.before.before.before.before in
     let room = (turn s).before.loop.invariant.1.done.room in
     (room.few, in_out s ∙ room.in_out)
 
-add_wide : tie.Need-overflow-add-wide invariant-loop decreases-loop
-add_wide c = omega (arith, bounds (turn (stepped c.before)))
+overflow_add-at-then-any_going : tie.Need-overflow_add-at-then-any_going invariant-loop-next decreases-loop-next
+overflow_add-at-then-any_going c = omega (arith, bounds (turn (stepped c.before)))
 
-mul_wide : tie.Need-overflow-mul-wide invariant-loop decreases-loop
-mul_wide c = omega (arith, bounds (turn (stepped c.before)))
+offset_bounds-words-at-then-any_going : tie.Need-offset_bounds-words-at-then-any_going invariant-loop-next decreases-loop-next
+offset_bounds-words-at-then-any_going c = omega (arith, bounds (turn (stepped c.before)))
 
-shared-slice-read-wide-3 : tie.Need-shared-slice-read-wide-3 invariant-loop decreases-loop
-shared-slice-read-wide-3 c = omega (arith, bounds (turn (stepped c.before.before)))
+bounds-words-at-then-any_going : tie.Need-bounds-words-at-then-any_going invariant-loop-next decreases-loop-next
+bounds-words-at-then-any_going c = omega (arith, bounds (turn (stepped c.before.before)))
 
-wide-requires-3 : tie.Need-wide-requires-3 invariant-loop decreases-loop
-wide-requires-3 c κs = search rules
+wide-next-requires-then-any_going : tie.Need-wide-next-requires-then-any_going invariant-loop-next decreases-loop-next
+wide-next-requires-then-any_going c κs = search rules
 
-loop-less : tie.Need-loop-smaller invariant-loop decreases-loop
+loop-less : tie.Need-loop-next-smaller-then-any_going invariant-loop-next decreases-loop-next
 loop-less c = omega (arith, bounds (turn (stepped c.before.before.before)))
 
-loop-again : tie.Need-loop-preserved invariant-loop decreases-loop
+loop-again : tie.Need-loop-next-preserved-then-any_going invariant-loop-next decreases-loop-next
 loop-again c =
     let asked = c.before.before.before in
     let s = stepped asked in
     let t = turn s in
-    let inv = t.before.loop.inv in
-    let e = s.step.ensures in (
+    let inv = t.loop-next.inv in
+    let e = s.step-z.ensures in (
       inv.0,
-      turned_on inv.1 t.loop-test.taken inv.0 (same_tables s) (in_running s) (in_out s) e.0 e.1.0 e.1.1
-          (sym asked.any-going.ensures ∙ c.before.before.if1.true) c.wide3.ensures,
+      turned_on inv.1 t.loop-next-test.taken inv.0 (same_tables s) (in_running s) (in_out s) e.0 e.1.0 e.1.1
+          (sym asked.any_going.ensures ∙ c.if-any_going.true) c.wide-next-then-any_going.ensures,
     )
 
-loop-less-2 : tie.Need-loop-smaller-2 invariant-loop decreases-loop
+loop-less-2 : tie.Need-loop-next-smaller invariant-loop-next decreases-loop-next
 loop-less-2 c = omega (arith, bounds (turn (stepped c.before)))
 
-loop-again-2 : tie.Need-loop-preserved-2 invariant-loop decreases-loop
+loop-again-2 : tie.Need-loop-next-preserved invariant-loop-next decreases-loop-next
 loop-again-2 c =
     let s = stepped c.before in
     let t = turn s in
-    let inv = t.before.loop.inv in
-    let e = s.step.ensures in (
+    let inv = t.loop-next.inv in
+    let e = s.step-z.ensures in (
       inv.0,
-      turned_over inv.1 t.loop-test.taken inv.0 (same_tables s) (in_running s) (in_out s) e.0 e.1.0 e.1.1
-          (sym c.before.any-going.ensures ∙ c.if1.false),
+      turned_over inv.1 t.loop-next-test.taken inv.0 (same_tables s) (in_running s) (in_out s) e.0 e.1.0 e.1.1
+          (sym c.any_going.ensures ∙ c.if-any_going.false),
     )
 
-slice-write-out : tie.Need-slice-write-out invariant-loop decreases-loop
-slice-write-out c = omega (arith, c.before.loop.invariant.1.done.room.in_out)
+bounds-out-0 : tie.Need-bounds-out-0 invariant-loop-next decreases-loop-next
+bounds-out-0 c = omega (arith, c.loop-next.invariant.1.done.room.in_out)
 
-same_length : tie.Need-same-length invariant-loop decreases-loop
-same_length c = c.before.loop.invariant.1.done.fit.in_c ∙ sym (start c.before).pre.0.in_c
+shape_of-c : tie.Need-shape_of-c invariant-loop-next decreases-loop-next
+shape_of-c c = c.loop-next.invariant.1.done.fit.in_c ∙ sym (start c.before).pre.0.in_c
 
-same-length-2 : tie.Need-same-length-2 invariant-loop decreases-loop
-same-length-2 c = c.before.loop.invariant.1.done.fit.in_y ∙ sym (start c.before).pre.0.in_y
+shape_of-y : tie.Need-shape_of-y invariant-loop-next decreases-loop-next
+shape_of-y c = c.loop-next.invariant.1.done.fit.in_y ∙ sym (start c.before).pre.0.in_y
 
-same-length-3 : tie.Need-same-length-3 invariant-loop decreases-loop
-same-length-3 c = c.before.loop.invariant.1.done.fit.in_x ∙ sym (start c.before).pre.0.in_x
+shape_of-x : tie.Need-shape_of-x invariant-loop-next decreases-loop-next
+shape_of-x c = c.loop-next.invariant.1.done.fit.in_x ∙ sym (start c.before).pre.0.in_x
 
-same-length-4 : tie.Need-same-length-4 invariant-loop decreases-loop
-same-length-4 c = c.before.loop.invariant.1.done.room.in_running ∙ sym (start c.before).pre.1.0
+shape_of-running : tie.Need-shape_of-running invariant-loop-next decreases-loop-next
+shape_of-running c = c.loop-next.invariant.1.done.room.in_running ∙ sym (start c.before).pre.1.0
 
-same-length-5 : tie.Need-same-length-5 invariant-loop decreases-loop
-same-length-5 c =
-    let l = c.before.loop in
+shape_of-out : tie.Need-shape_of-out invariant-loop-next decreases-loop-next
+shape_of-out c =
+    let l = c.loop-next in
     length-set l.out 0 l.records ∙ l.invariant.1.done.room.in_out
     ∙ sym (ap length (start c.before).pre.1.1 ∙ length-replicate {A = ℕ} 257 0)
 
-returns : tie.Need-returns invariant-loop decreases-loop
-returns c = ended c.before.loop.invariant.1 c.loop-test.false
+returns : tie.Need-returns invariant-loop-next decreases-loop-next
+returns c = ended c.loop-next.invariant.1 c.loop-next-test.false
 
 pub pass_spec : {M : Type 1} → statement M
 pass_spec =
     tie.close
     (tie.spec
-    invariant-loop
-    decreases-loop
-    shared-slice-read-wide
-    wide-requires
-    fresh-requires
-    shared-slice-read-wide-2
-    wide-requires-2
+    invariant-loop-next
+    decreases-loop-next
+    bounds-words-0
+    wide-order-requires
+    fresh-z-requires
+    bounds-words-3
+    wide-next-requires
     loop-holds
-    mul_at
-    cast-step
-    mul-step
-    shared-slice-read-step
-    add_step
-    mul-step-2
-    shared-slice-read-step-2
-    add-step-2
-    mul-step-3
-    shared-slice-read-step-3
-    step-requires
-    add-records
-    any-going-requires
-    add_wide
-    mul_wide
-    shared-slice-read-wide-3
-    wide-requires-3
+    overflow_mul-at
+    overflow_cast-next
+    offset_bounds-words-at
+    bounds-words-at
+    overflow_add-at
+    offset_bounds-words-at-in-loop-next
+    bounds-words-at-in-loop-next
+    overflow_add-at-in-loop-next
+    offset_bounds-words-at-in-loop-next-2
+    bounds-words-at-in-loop-next-2
+    step-z-requires
+    overflow_add-records
+    any_going-requires
+    overflow_add-at-then-any_going
+    offset_bounds-words-at-then-any_going
+    bounds-words-at-then-any_going
+    wide-next-requires-then-any_going
     loop-less
     loop-again
     loop-less-2
     loop-again-2
-    slice-write-out
-    same_length
-    same-length-2
-    same-length-3
-    same-length-4
-    same-length-5
+    bounds-out-0
+    shape_of-c
+    shape_of-y
+    shape_of-x
+    shape_of-running
+    shape_of-out
     returns)

@@ -17,17 +17,17 @@ use Rattle.many.proofs.run_many.Statement.{statement}
 use Rattle.many.proofs.run_many.Tie as tie
 
 -- Places of the code: the entry, seen from where the call was checked; that place, seen from where the sides are run, which is seen from the end.
-abbrev entry : tie.After-check-call → tie.Start
+abbrev entry : tie.After-check_call-checked → tie.Start
 entry c = c.before.before.before.before.before.before.before.before
 
-abbrev passed : tie.After-run-sides-arg4 → tie.After-check-call
+abbrev passed : tie.After-run_sides-arg-in-Fine-3-1 → tie.After-check_call-checked
 passed c = c.before.before.before.before.before.before.before
 
-abbrev ran : tie.After-slice-known6 → tie.After-run-sides
+abbrev ran : tie.After-slice_known-in-Fine-3-1 → tie.After-run_sides
 ran c = c.before.before.before.before.before.before
 
 -- how the call ends
-abbrev ends : tie.After-check-call → Outcomes
+abbrev ends : tie.After-check_call-checked → Outcomes
 ends c =
     let a = (entry c).args in
     ran_many a.words.now a.count a.a.now a.b.now a.limit (length a.c.now) (length a.y.now) (length a.x.now)
@@ -41,70 +41,70 @@ refused-told : (r : Checked) (o : Outcomes) (P : Outcomes → Type 0) → tag_of
 refused-told Fine o P e is none = absurd (omega arith)
 refused-told (Refused n d) o P e is none = subst P (sym (refused_is o n d is)) (none n d)
 
-check-call-requires : tie.Need-check-call-requires
-check-call-requires c κs = search rules
+check_call-checked-requires : tie.Need-check_call-checked-requires
+check_call-checked-requires c κs = search rules
 
-enum_told : tie.Need-enum-told
-enum_told c = search rules
+enum_told-1 : tie.Need-enum_told-1
+enum_told-1 c = search rules
 
 wide-requires : tie.Need-wide-requires
 wide-requires c κs = search rules
 
 -- the call passed its checks
-fits : (c : tie.After-run-sides-arg4)
+fits : (c : tie.After-run_sides-arg-in-Fine-3-1)
     → let a = (entry (passed c)).args in
     FitMany a.words.now a.count (length a.a.now) (length a.b.now) (length a.c.now) (length a.y.now) (length a.x.now)
     × (ends (passed c) ≡ sides (endings a.words.now a.count a.a.now a.b.now a.limit))
 fits c =
     let checked = (passed c).check-call in
-    call_fits _ _ _ _ _ _ _ _ (sym (fine-told checked.result c.before.before.before.before.before.before.match.keys1) ∙ checked.ensures)
+    call_fits _ _ _ _ _ _ _ _ (sym (fine-told checked.result c.in-Fine.keys1) ∙ checked.ensures)
 
-run-sides-requires : tie.Need-run-sides-requires
-run-sides-requires c κs = (rw c.before.before.before.before.wide.ensures (fits c).0, refl)
+run_sides-requires : tie.Need-run_sides-requires
+run_sides-requires c κs = (rw c.wide.ensures (fits c).0, refl)
 
-enum-told-2 : tie.Need-enum-told-2
-enum-told-2 c = search rules
+enum_told-in_default : tie.Need-enum_told-in_default
+enum_told-in_default c = search rules
 
-same_length : tie.Need-same-length
-same_length c = search rules
+shape_of-c : tie.Need-shape_of-c
+shape_of-c c = search rules
 
-same-length-2 : tie.Need-same-length-2
-same-length-2 c = search rules
+shape_of-y : tie.Need-shape_of-y
+shape_of-y c = search rules
 
-same-length-3 : tie.Need-same-length-3
-same-length-3 c = search rules
+shape_of-x : tie.Need-shape_of-x
+shape_of-x c = search rules
 
-returns : tie.Need-returns
-returns c =
+returns-in-Fine : tie.Need-returns-in-Fine
+returns-in-Fine c =
     let f = ran c in
     let a = (entry (passed f.before)).args in
-    let last = f.run-sides.last.1.1.1.1.1 in
+    let last = f.run_sides.last.1.1.1.1.1 in
     let Left = Leaves a.words.now last.1.1.1.0 a.c.now a.y.now a.x.now last.0 last.1.0 last.1.1.0 in
-    let left = subst (λ n. Left (sides (endings a.words.now n a.a.now a.b.now a.limit))) f.before.before.before.before.before.wide.ensures
-    f.run-sides.ensures in
+    let left = subst (λ n. Left (sides (endings a.words.now n a.a.now a.b.now a.limit))) f.wide.ensures
+    f.run_sides.ensures in
     let all = subst Left (sym (fits f.before).1) left in
     (((passed f.before).check-call.ensures, all.0), all.1)
 
-returns-2 : tie.Need-returns-2
-returns-2 c =
+returns-in_default : tie.Need-returns-in_default
+returns-in_default c =
     let f = c.before.before in
     let a = (entry f).args in
-    let left = refused-told f.check-call.result (ends f)
-    (Leaves a.words.now (replicate 257 0) a.c.now a.y.now a.x.now a.c.now a.y.now a.x.now) c.before.match.keys2
-    f.check-call.ensures (leaves_none a.words.now a.c.now a.y.now a.x.now) in
-    ((f.check-call.ensures, left.0), left.1)
+    let left = refused-told f.check_call-checked.result (ends f)
+    (Leaves a.words.now (replicate 257 0) a.c.now a.y.now a.x.now a.c.now a.y.now a.x.now) c.in_default.keys2
+    f.check_call-checked.ensures (leaves_none a.words.now a.c.now a.y.now a.x.now) in
+    ((f.check_call-checked.ensures, left.0), left.1)
 
 pub run_many_spec : {M : Type 1} → statement M
 run_many_spec =
     tie.close
     (tie.spec
-    check-call-requires
-    enum_told
+    check_call-checked-requires
+    enum_told-1
     wide-requires
-    run-sides-requires
-    enum-told-2
-    same_length
-    same-length-2
-    same-length-3
-    returns
-    returns-2)
+    run_sides-requires
+    enum_told-in_default
+    shape_of-c
+    shape_of-y
+    shape_of-x
+    returns-in-Fine
+    returns-in_default)

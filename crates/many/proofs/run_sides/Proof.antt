@@ -20,79 +20,79 @@ use Rattle.many.proofs.run_sides.Tie as tie
 
 -- Places of the code, each seen from the next: the entry; where the order is read; the pass; where the sides have told; where Y is cleared and where X is;
 -- and where it is asked whether a side goes on.
-abbrev entry : tie.After-shared-slice-known4 → tie.Start
+abbrev entry : tie.After-shared_slice_known-4-1 → tie.Start
 entry c = c.before.before.before.before.before.before.before.before
 
-abbrev ordered : tie.After-pass → tie.After-wide
+abbrev ordered : tie.After-pass-z → tie.After-wide-order
 ordered c = c.before.before.before.before.before.before
 
-abbrev passed : tie.After-tell-each-arg → tie.After-pass
+abbrev passed : tie.After-tell_each-arg-1 → tie.After-pass-z
 passed c = c.before.before.before.before.before.before.before.before.before.before
 
-abbrev told : tie.After-clear-ended-arg2 → tie.After-tell-each
-told c = c.before.before.before.before
+abbrev told : tie.After-clear_ended-arg-2-1 → tie.After-tell_each
+told c = c.before.before.before.before.before.before.before
 
-abbrev cleared-y : tie.After-clear-ended-arg4 → tie.After-clear-ended
+abbrev cleared-y : tie.After-clear-ended-arg4 → tie.After-clear_ended
 cleared-y c = c.before.before.before.before
 
-abbrev cleared-x : tie.After-any-going-arg → tie.After-clear-ended2
+abbrev cleared-x : tie.After-any-going-arg → tie.After-clear_ended-2
 cleared-x c = c.before.before.before
 
-abbrev start : tie.After-pass → tie.Start
+abbrev start : tie.After-pass-z → tie.Start
 start c = entry (ordered c).before
 
 -- the numbers out have their length, and Y and X after the pass theirs
-passed-long : (c : tie.After-pass) → length c.pass.new.1.1.1.1.1.1.1.1.1.0 ≡ 257
-passed-long c = c.pass.auto.1.1.1.1.1.1.1.1.1.0 ∙ ap length (start c).requires.1
+passed-long : (c : tie.After-pass-z) → length c.pass-z.new.1.1.1.1.1.1.1.1.1.0 ≡ 257
+passed-long c = c.pass-z.auto.1.1.1.1.1.1.1.1.1.0 ∙ ap length (start c).requires.1
 
-told-long : (c : tie.After-tell-each) → length c.tell-each.new.1.1.1.1.0 ≡ 257
-told-long c = c.tell-each.auto.1.1.1.1.0 ∙ passed-long (passed c.before)
+told-long : (c : tie.After-tell_each) → length c.tell_each.new.1.1.1.1.0 ≡ 257
+told-long c = c.tell_each.auto.1.1.1.1.0 ∙ passed-long (passed c.before)
 
-long-y : (c : tie.After-pass) → length c.pass.new.1.1.1.1.1.1.0 ≡ (start c).args.count * (ordered c).wide.result
-long-y c = c.pass.auto.1.1.1.1.1.1.0 ∙ (start c).requires.0.in_y ∙ ap (λ n. (start c).args.count * n) (sym (ordered c).wide.ensures)
+long-y : (c : tie.After-pass-z) → length c.pass-z.new.1.1.1.1.1.1.0 ≡ (start c).args.count * (ordered c).wide.result
+long-y c = c.pass-z.auto.1.1.1.1.1.1.0 ∙ (start c).requires.0.in_y ∙ ap (λ n. (start c).args.count * n) (sym (ordered c).wide.ensures)
 
-long-x : (c : tie.After-pass) → length c.pass.new.1.1.1.1.1.1.1.0 ≡ (start c).args.count * (ordered c).wide.result
-long-x c = c.pass.auto.1.1.1.1.1.1.1.0 ∙ (start c).requires.0.in_x ∙ ap (λ n. (start c).args.count * n) (sym (ordered c).wide.ensures)
+long-x : (c : tie.After-pass-z) → length c.pass-z.new.1.1.1.1.1.1.1.0 ≡ (start c).args.count * (ordered c).wide.result
+long-x c = c.pass-z.auto.1.1.1.1.1.1.1.0 ∙ (start c).requires.0.in_x ∙ ap (λ n. (start c).args.count * n) (sym (ordered c).wide.ensures)
 
 -- the sides and the order are few
-small : (c : tie.After-pass) → ((start c).args.count ≤ 64) × ((ordered c).wide.result ≤ 600)
+small : (c : tie.After-pass-z) → ((start c).args.count ≤ 64) × ((ordered c).wide.result ≤ 600)
 small c =
     let fits = (start c).requires.0 in
     ((few-sides fits).1, omega (arith, (ordered c).wide.ensures, head-fits (start c).args.words.now fits.checked))
 
-shared-slice-read-wide : tie.Need-shared-slice-read-wide
-shared-slice-read-wide c = omega (arith, head-fits _ (entry c).requires.0.checked)
+bounds-words-0 : tie.Need-bounds-words-0
+bounds-words-0 c = omega (arith, head-fits _ (entry c).requires.0.checked)
 
-wide-requires : tie.Need-wide-requires
-wide-requires c κs = search rules
+wide-order-requires : tie.Need-wide-order-requires
+wide-order-requires c κs = search rules
 
-slice-aggregate-pass : tie.Need-slice-aggregate-pass
-slice-aggregate-pass c = refl
+slice_bounds-pass-end : tie.Need-slice_bounds-pass-end
+slice_bounds-pass-end c = refl
 
-pass-requires : tie.Need-pass-requires
-pass-requires c κs =
+pass-z-requires : tie.Need-pass-z-requires
+pass-z-requires c κs =
     let s = entry c.before.before.before.before.before.before in
     (s.pre.0, (refl, s.pre.1))
 
-tell-each-requires : tie.Need-tell-each-requires
-tell-each-requires c κs =
+tell_each-requires : tie.Need-tell_each-requires
+tell_each-requires c κs =
     let p = passed c in
-    (((small p).0, passed-long p), p.pass.ensures.few)
+    (((small p).0, passed-long p), p.pass-z.ensures.few)
 
-clear-ended-requires : tie.Need-clear-ended-requires
-clear-ended-requires c κs =
+clear_ended-requires : tie.Need-clear_ended-requires
+clear_ended-requires c κs =
     let t = told c in
     let p = passed t.before in
     (((small p).0, ((small p).1, told-long t)), long-y p)
 
-clear-ended-requires-2 : tie.Need-clear-ended-requires-2
-clear-ended-requires-2 c κs =
+clear_ended-requires-2 : tie.Need-clear_ended-requires-2
+clear_ended-requires-2 c κs =
     let t = told (cleared-y c).before in
     let p = passed t.before in
     (((small p).0, ((small p).1, told-long t)), long-x p)
 
-any-going-requires : tie.Need-any-going-requires
-any-going-requires c κs =
+any_going-requires : tie.Need-any_going-requires
+any_going-requires c κs =
     let t = told (cleared-y (cleared-x c).before).before in
     ((small (passed t.before)).0, told-long t)
 
@@ -100,100 +100,100 @@ clear-requires : tie.Need-clear-requires
 clear-requires c κs = search rules
 
 -- how the sides end, and the numbers, Y and X once they are told and cleared
-abbrev ends : tie.After-pass → List Outcome
+abbrev ends : tie.After-pass-z → List Outcome
 ends c = let a = (start c).args in endings a.words.now a.count a.a.now a.b.now a.limit
 
-numbers_now : (c : tie.After-tell-each) → let p = passed c.before in
-    c.tell-each.new.1.1.1.1.0 ≡ many_numbers (replies (start p).args.words.now (sides (ends p)))
+numbers_now : (c : tie.After-tell_each) → let p = passed c.before in
+    c.tell_each.new.1.1.1.1.0 ≡ many_numbers (replies (start p).args.words.now (sides (ends p)))
 numbers_now c =
     let p = passed c.before in
-    numbers-told p.pass.ensures c.tell-each.ensures (small p).0 (told-long c) (start p).pre.1
+    numbers-told p.pass-z.ensures c.tell_each.ensures (small p).0 (told-long c) (start p).pre.1
 
-y_now : (c : tie.After-clear-ended) → let p = passed (told c.before).before in
-    c.clear-ended.new.1.1.1.0 ≡ leaves_many (sides (ends p)) (word (start p).args.words.now 0) Y (start p).args.y.now
+y_now : (c : tie.After-clear_ended) → let p = passed (told c.before).before in
+    c.clear_ended.new.1.1.1.0 ≡ leaves_many (sides (ends p)) (word (start p).args.words.now 0) Y (start p).args.y.now
 y_now c =
     let t = told c.before in
     let p = passed t.before in
-    left-y p.pass.ensures t.tell-each.ensures (ordered p).wide.ensures _ _ (long-y p) (c.clear-ended.auto.1.1.1.0 ∙ long-y p)
-    c.clear-ended.ensures
+    left-y p.pass-z.ensures t.tell_each.ensures (ordered p).wide.ensures _ _ (long-y p) (c.clear_ended.auto.1.1.1.0 ∙ long-y p)
+    c.clear_ended.ensures
 
-x_now : (c : tie.After-clear-ended2) → let p = passed (told (cleared-y c.before).before).before in
-    c.clear-ended2.new.1.1.1.0 ≡ leaves_many (sides (ends p)) (word (start p).args.words.now 0) X (start p).args.x.now
+x_now : (c : tie.After-clear_ended-2) → let p = passed (told (cleared-y c.before).before).before in
+    c.clear_ended-2.new.1.1.1.0 ≡ leaves_many (sides (ends p)) (word (start p).args.words.now 0) X (start p).args.x.now
 x_now c =
     let t = told (cleared-y c.before).before in
     let p = passed t.before in
-    left-x p.pass.ensures t.tell-each.ensures (ordered p).wide.ensures _ _ (long-x p) (c.clear-ended2.auto.1.1.1.0 ∙ long-x p)
-    c.clear-ended2.ensures
+    left-x p.pass-z.ensures t.tell_each.ensures (ordered p).wide.ensures _ _ (long-x p) (c.clear_ended-2.auto.1.1.1.0 ∙ long-x p)
+    c.clear_ended-2.ensures
 
-same_length : tie.Need-same-length
-same_length c = search rules
+shape_of-c-then-not-any_going : tie.Need-shape_of-c-then-not-any_going
+shape_of-c-then-not-any_going c = search rules
 
-same-length-2 : tie.Need-same-length-2
-same-length-2 c = search rules
+shape_of-y-then-not-any_going : tie.Need-shape_of-y-then-not-any_going
+shape_of-y-then-not-any_going c = search rules
 
-same-length-3 : tie.Need-same-length-3
-same-length-3 c = search rules
+shape_of-x-then-not-any_going : tie.Need-shape_of-x-then-not-any_going
+shape_of-x-then-not-any_going c = search rules
 
-same-length-4 : tie.Need-same-length-4
-same-length-4 c = search rules
+shape_of-out-then-not-any_going : tie.Need-shape_of-out-then-not-any_going
+shape_of-out-then-not-any_going c = search rules
 
-returns : tie.Need-returns
-returns c =
+returns-then-not-any_going : tie.Need-returns-then-not-any_going
+returns-then-not-any_going c =
     let any = c.before.before.before.before.before in
     let x = cleared-x any.before in
     let y = cleared-y x.before in
     let t = told y.before in
     let p = passed t.before in
-    let none = sym any.any-going.ensures ∙ not-true _ c.before.before.before.before.if1.true in (
+    let none = sym any.any_going.ensures ∙ not-true _ c.if-not-any_going.true in (
       numbers_now t,
       (
-        c.before.before.clear.ensures ∙ left-c-none p.pass.ensures t.tell-each.ensures _ p.pass.kept.1.1.1.1.1.0 none,
+        c.clear.ensures ∙ left-c-none p.pass-z.ensures t.tell_each.ensures _ p.pass-z.kept.1.1.1.1.1.0 none,
         (y_now y, x_now x),
       ),
     )
 
-same-length-5 : tie.Need-same-length-5
-same-length-5 c = search rules
+shape_of-c-else-not-any_going : tie.Need-shape_of-c-else-not-any_going
+shape_of-c-else-not-any_going c = search rules
 
-same-length-6 : tie.Need-same-length-6
-same-length-6 c = search rules
+shape_of-y-else-not-any_going : tie.Need-shape_of-y-else-not-any_going
+shape_of-y-else-not-any_going c = search rules
 
-same-length-7 : tie.Need-same-length-7
-same-length-7 c = search rules
+shape_of-x-else-not-any_going : tie.Need-shape_of-x-else-not-any_going
+shape_of-x-else-not-any_going c = search rules
 
-same-length-8 : tie.Need-same-length-8
-same-length-8 c = search rules
+shape_of-out-else-not-any_going : tie.Need-shape_of-out-else-not-any_going
+shape_of-out-else-not-any_going c = search rules
 
-returns-2 : tie.Need-returns-2
-returns-2 c =
+returns-else-not-any_going : tie.Need-returns-else-not-any_going
+returns-else-not-any_going c =
     let any = c.before in
     let x = cleared-x any.before in
     let y = cleared-y x.before in
     let t = told y.before in
     let p = passed t.before in
-    let some = sym any.any-going.ensures ∙ not-false _ c.if1.false in
-    (numbers_now t, (left-c p.pass.ensures t.tell-each.ensures _ some, (y_now y, x_now x)))
+    let some = sym any.any_going.ensures ∙ not-false _ c.if-not-any_going.false in
+    (numbers_now t, (left-c p.pass-z.ensures t.tell_each.ensures _ some, (y_now y, x_now x)))
 
 pub run_sides_spec : {M : Type 1} → statement M
 run_sides_spec =
     tie.close
     (tie.spec
-    shared-slice-read-wide
-    wide-requires
-    slice-aggregate-pass
-    pass-requires
-    tell-each-requires
-    clear-ended-requires
-    clear-ended-requires-2
-    any-going-requires
+    bounds-words-0
+    wide-order-requires
+    slice_bounds-pass-end
+    pass-z-requires
+    tell_each-requires
+    clear_ended-requires
+    clear_ended-requires-2
+    any_going-requires
     clear-requires
-    same_length
-    same-length-2
-    same-length-3
-    same-length-4
-    returns
-    same-length-5
-    same-length-6
-    same-length-7
-    same-length-8
-    returns-2)
+    shape_of-c-then-not-any_going
+    shape_of-y-then-not-any_going
+    shape_of-x-then-not-any_going
+    shape_of-out-then-not-any_going
+    returns-then-not-any_going
+    shape_of-c-else-not-any_going
+    shape_of-y-else-not-any_going
+    shape_of-x-else-not-any_going
+    shape_of-out-else-not-any_going
+    returns-else-not-any_going)

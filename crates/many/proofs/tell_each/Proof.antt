@@ -16,49 +16,49 @@ record Told (count r : ℕ) (products quotients vanished : ℕ) (out₀ out : Li
   long : length out ≡ length out₀
   each : Each r (λ s. if_going (told products quotients vanished)) [] out₀ [] out
 
-abbrev invariant-loop : tie.invariant-loop
-invariant-loop products quotients vanished count out₀ r₀ out r = Told count r products quotients vanished out₀ out
+abbrev invariant-loop-r : tie.invariant-loop-r
+invariant-loop-r products quotients vanished count out₀ r₀ out r = Told count r products quotients vanished out₀ out
 
-abbrev decreases-loop : tie.decreases-loop
-decreases-loop products quotients vanished count out₀ r₀ out r = count - r
+abbrev decreases-loop-r : tie.decreases-loop-r
+decreases-loop-r products quotients vanished count out₀ r₀ out r = count - r
 
-loop-holds : tie.Need-loop-init invariant-loop decreases-loop
+loop-holds : tie.Need-loop-r-init invariant-loop-r decreases-loop-r
 loop-holds c = record { low = omega arith; long = refl; each = each_none _ [] _ }
 
-mul-if1 : tie.Need-overflow-mul-if1 invariant-loop decreases-loop
-mul-if1 c = omega arith
+overflow_mul-r : tie.Need-overflow_mul-r invariant-loop-r decreases-loop-r
+overflow_mul-r c = omega arith
 
-add-if1 : tie.Need-overflow-add-if1 invariant-loop decreases-loop
-add-if1 c = omega arith
+overflow_add-r : tie.Need-overflow_add-r invariant-loop-r decreases-loop-r
+overflow_add-r c = omega arith
 
-mul-if1-2 : tie.Need-overflow-mul-if1-2 invariant-loop decreases-loop
-mul-if1-2 c = omega arith
+offset_bounds-out-r : tie.Need-offset_bounds-out-r invariant-loop-r decreases-loop-r
+offset_bounds-out-r c = omega arith
 
-slice-read-if1 : tie.Need-slice-read-if1 invariant-loop decreases-loop
-slice-read-if1 c = omega arith
+bounds-out-r : tie.Need-bounds-out-r invariant-loop-r decreases-loop-r
+bounds-out-r c = omega arith
 
 -- the entry, seen from a turn
-abbrev start : tie.In-loop invariant-loop decreases-loop → tie.Start invariant-loop decreases-loop
+abbrev start : tie.In-loop-r invariant-loop-r decreases-loop-r → tie.Start invariant-loop-r decreases-loop-r
 start c = c.before.before.before
 
 -- a side that comes yet is as it was
-tell-one-requires : tie.Need-tell-one-requires invariant-loop decreases-loop
-tell-one-requires c κs =
+tell_one-requires : tie.Need-tell_one-requires invariant-loop-r decreases-loop-r
+tell_one-requires c κs =
     let turn = c.before.before.before in
-    let l = turn.before.loop in
+    let l = turn.loop-r in
     let same = l.invariant.each.past in
-    let few = (start turn).requires.1 l.r (omega arith) (sym (same (4 * l.r + 1) (omega arith)) ∙ c.before.if1.true) in
+    let few = (start turn).requires.1 l.r (omega arith) (sym (same (4 * l.r + 1) (omega arith)) ∙ c.if-out-r-eq0.true) in
     ((omega arith, omega arith), omega (arith, few, same (4 * l.r + 4) (omega arith)))
 
-add_r : tie.Need-overflow-add-r invariant-loop decreases-loop
-add_r c = omega arith
+overflow_step-r : tie.Need-overflow_step-r invariant-loop-r decreases-loop-r
+overflow_step-r c = omega arith
 
-loop-less : tie.Need-loop-smaller invariant-loop decreases-loop
+loop-less : tie.Need-loop-r-smaller invariant-loop-r decreases-loop-r
 loop-less c = omega arith
 
-loop-again : tie.Need-loop-preserved invariant-loop decreases-loop
+loop-again : tie.Need-loop-r-preserved invariant-loop-r decreases-loop-r
 loop-again c =
-    let before = c.before.before.before.loop.invariant in
+    let before = c.loop-r.invariant in
     ⊎_elim
     (λ w.
     rw w.5
@@ -68,31 +68,31 @@ loop-again c =
       each = each_more before.each (one-going w.2.ensures w.0.taken);
     }))
     (λ w. rw w.1 (record { low = omega arith; long = before.long; each = each_more before.each (one_ended _ [] _ _ w.0.left) }))
-    c.if1.branch
+    c.if-out-r-eq0.branch
 
-same_length : tie.Need-same-length invariant-loop decreases-loop
-same_length c = c.before.loop.invariant.long
+shape_of-out : tie.Need-shape_of-out invariant-loop-r decreases-loop-r
+shape_of-out c = c.loop-r.invariant.long
 
-returns : tie.Need-returns invariant-loop decreases-loop
+returns : tie.Need-returns invariant-loop-r decreases-loop-r
 returns c =
-    let l = c.before.loop in
-    let all : l.r ≡ c.before.before.before.args.count = omega arith in
+    let l = c.loop-r in
+    let all : l.r ≡ c.args.count = omega arith in
     rw all at l.invariant.each
 
 pub tell_each_spec : {M : Type 1} → statement M
 tell_each_spec =
     tie.close
     (tie.spec
-    invariant-loop
-    decreases-loop
+    invariant-loop-r
+    decreases-loop-r
     loop-holds
-    mul-if1
-    add-if1
-    mul-if1-2
-    slice-read-if1
-    tell-one-requires
-    add_r
+    overflow_mul-r
+    overflow_add-r
+    offset_bounds-out-r
+    bounds-out-r
+    tell_one-requires
+    overflow_step-r
     loop-less
     loop-again
-    same_length
+    shape_of-out
     returns)

@@ -19,13 +19,13 @@ fill-requires c κs =
     let e = entry m in
     (e.pre.0.0, (omega (arith, m.mark.ensures.size, e.pre.1.1), (refl, refl)))
 
-same_length : tie.Need-same-length
-same_length c = search rules
+shape_of-work : tie.Need-shape_of-work
+shape_of-work c = search rules
 
 returns : tie.Need-returns
 returns c =
     let m = c.before.before.before.before.before.before.before.before.before.before in
-    filled_since m.mark.ensures (c.before.before.fill.ensures _ m.mark.ensures.marked)
+    filled_since m.mark.ensures (c.fill.ensures _ m.mark.ensures.marked)
 
 pub fill_anew_spec : {M : Type 1} → statement M
-fill_anew_spec = tie.close (tie.spec mark-requires fill-requires same_length returns)
+fill_anew_spec = tie.close (tie.spec mark-requires fill-requires shape_of-work returns)

@@ -5,14 +5,14 @@ use borrow.Author.Rules.{rules}
 use Rattle.ordering.proofs.idle_after.Statement.{statement}
 use Rattle.ordering.proofs.idle_after.Tie as tie
 
-add-result : tie.Need-overflow-add-result
-add-result c = search rules
+overflow_add-result : tie.Need-overflow_add-result
+overflow_add-result c = search rules
 
-returns : tie.Need-returns
-returns c = rw (lt-ltb _ _ c.if1.true)
+returns-then-after-before : tie.Need-returns-then-after-before
+returns-then-after-before c = rw (lt-ltb _ _ c.if-after-before.true)
 
-returns-2 : tie.Need-returns-2
-returns-2 c = rw (le-ltb _ _ c.if1.false) (add-one _)
+returns-else-after-before : tie.Need-returns-else-after-before
+returns-else-after-before c = rw (le-ltb _ _ c.if-after-before.false) (add-one _)
 
-pub idle-after_spec : {M : Type 1} → statement M
-idle-after_spec = tie.close (tie.spec add-result returns returns-2)
+pub idle_after_spec : {M : Type 1} → statement M
+idle_after_spec = tie.close (tie.spec overflow_add-result returns-then-after-before returns-else-after-before)

@@ -12,125 +12,125 @@ use Rattle.ordering.proofs.Trials.{Tried, tried_more, tried-settled}
 use Rattle.ordering.proofs.make_trials.Statement.{statement}
 use Rattle.ordering.proofs.make_trials.Tie as tie
 
-abbrev invariant-loop : tie.invariant-loop
-invariant-loop n plan trials work₀ rows₀ columns₀ numbering₀ slots slots₀ idle₀ k₀ work rows columns numbering slots' idle k =
+abbrev invariant-loop-k : tie.invariant-loop-k
+invariant-loop-k n plan trials work₀ rows₀ columns₀ numbering₀ slots slots₀ idle₀ k₀ work rows columns numbering slots' idle k =
     Tried n plan work₀ work rows columns numbering slots' idle k × (k ≤ trials)
 
-abbrev decreases-loop : tie.decreases-loop
-decreases-loop n plan trials work₀ rows₀ columns₀ numbering₀ slots slots₀ idle₀ k₀ work rows columns numbering slots' idle k =
+abbrev decreases-loop-k : tie.decreases-loop-k
+decreases-loop-k n plan trials work₀ rows₀ columns₀ numbering₀ slots slots₀ idle₀ k₀ work rows columns numbering slots' idle k =
     trials - k
 
 -- Places of the code: the entry, seen from the loop; and a turn of it.
-abbrev entry : tie.At-loop invariant-loop decreases-loop → tie.Start invariant-loop decreases-loop
+abbrev entry : tie.At-loop-k invariant-loop-k decreases-loop-k → tie.Start invariant-loop-k decreases-loop-k
 entry c = c.before.before.before.before
 
-abbrev turned : tie.After-try-exchange invariant-loop decreases-loop → tie.Then1 invariant-loop decreases-loop
+abbrev turned : tie.After-try_exchange-after invariant-loop-k decreases-loop-k → tie.Then-idle-n invariant-loop-k decreases-loop-k
 turned c = c.before.before.before.before.before
 
 -- there are two rooms if there is a trial, and t is one of them
-two : (c : tie.In-loop invariant-loop decreases-loop) → 1 < (entry c.before).args.n
+two : (c : tie.In-loop-k invariant-loop-k decreases-loop-k) → 1 < (entry c.before).args.n
 two c = (entry c.before).pre.1 (omega arith)
 
-small : (c : tie.In-loop invariant-loop decreases-loop) → (entry c.before).args.n ≤ 600
-small c = c.before.loop.invariant.0.numbers.stood.stands.high
+small : (c : tie.In-loop-k invariant-loop-k decreases-loop-k) → (entry c.before).args.n ≤ 600
+small c = c.loop-k.invariant.0.numbers.stood.stands.high
 
 -- both slices are as long as they came
-work_size : (c : tie.At-loop invariant-loop decreases-loop) → length c.loop.work ≡ length (entry c).args.work.now
+work_size : (c : tie.At-loop-k invariant-loop-k decreases-loop-k) → length c.loop-k.work ≡ length (entry c).args.work.now
 work_size c =
-    let i = c.loop.invariant.0 in
+    let i = c.loop-k.invariant.0 in
     omega (arith, simp length-drop at (ap length i.rest), i.numbers.stood.stands.room, (entry c).requires.0.1.stood.stands.room)
 
-numbering_size : (c : tie.At-loop invariant-loop decreases-loop) → length c.loop.numbering ≡ length (entry c).args.numbering.now
-numbering_size c = c.loop.invariant.0.numbers.stood.kept.numbers.size ∙ sym (entry c).requires.0.1.stood.kept.numbers.size
+numbering_size : (c : tie.At-loop-k invariant-loop-k decreases-loop-k) → length c.loop-k.numbering ≡ length (entry c).args.numbering.now
+numbering_size c = c.loop-k.invariant.0.numbers.stood.kept.numbers.size ∙ sym (entry c).requires.0.1.stood.kept.numbers.size
 
-loop-holds : tie.Need-loop-init invariant-loop decreases-loop
+loop-holds : tie.Need-loop-k-init invariant-loop-k decreases-loop-k
 loop-holds c =
-    let p = c.before.before.before.requires.0 in
+    let p = c.requires.0 in
     (record { reached = p.0 ∙ sym (after_none _ _); numbers = p.1; rest = refl; idle = idle-none }, omega arith)
 
-sub-if1 : tie.Need-overflow-sub-if1 invariant-loop decreases-loop
-sub-if1 c = omega (arith, two c)
+overflow_sub-n : tie.Need-overflow_sub-n invariant-loop-k decreases-loop-k
+overflow_sub-n c = omega (arith, two c)
 
-sub-t : tie.Need-overflow-sub-t invariant-loop decreases-loop
-sub-t c = omega (arith, two c.before)
+overflow_sub-t : tie.Need-overflow_sub-t invariant-loop-k decreases-loop-k
+overflow_sub-t c = omega (arith, two c.before)
 
-rem-t : tie.Need-nonzero-rem-t invariant-loop decreases-loop
-rem-t c = omega (arith, two c.before)
+nonzero_rem-t : tie.Need-nonzero_rem-t invariant-loop-k decreases-loop-k
+nonzero_rem-t c = omega (arith, two c.before)
 
-add-t : tie.Need-overflow-add-t invariant-loop decreases-loop
-add-t c =
+overflow_add-t : tie.Need-overflow_add-t invariant-loop-k decreases-loop-k
+overflow_add-t c =
     let l = c.before.before in
-    omega (arith, turn_is (entry l).args.n l.loop.k, turn_inside (entry l).args.n l.loop.k (two c.before), small c.before)
+    omega (arith, turn_is (entry l).args.n l.loop-k.k, turn_inside (entry l).args.n l.loop-k.k (two c.before), small c.before)
 
-try-exchange-requires : tie.Need-try-exchange-requires invariant-loop decreases-loop
-try-exchange-requires c κs =
+try_exchange-after-requires : tie.Need-try_exchange-after-requires invariant-loop-k decreases-loop-k
+try_exchange-after-requires c κs =
     let t = c.before.before.before.before.before in
     let l = t.before in
-    (l.loop.invariant.0.numbers, rw (turn_is (entry l).args.n l.loop.k) (turn_inside _ l.loop.k (two t)))
+    (l.loop-k.invariant.0.numbers, rw (turn_is (entry l).args.n l.loop-k.k) (turn_inside _ l.loop-k.k (two t)))
 
-idle-after-requires : tie.Need-idle-after-requires invariant-loop decreases-loop
-idle-after-requires c κs =
+idle_after-idle-requires : tie.Need-idle_after-idle-requires invariant-loop-k decreases-loop-k
+idle_after-idle-requires c κs =
     let t = turned c.before.before.before.before in
     let l = t.before.before in
-    omega (arith, ltb-true l.loop.idle ((entry l).args.n - 1) t.if1.taken, small t.before)
+    omega (arith, ltb-true l.loop-k.idle ((entry l).args.n - 1) t.if-idle-n.taken, small t.before)
 
-add-k : tie.Need-overflow-add-k invariant-loop decreases-loop
-add-k c = search rules
+overflow_add-k : tie.Need-overflow_add-k invariant-loop-k decreases-loop-k
+overflow_add-k c = search rules
 
-loop-less : tie.Need-loop-smaller invariant-loop decreases-loop
+loop-less : tie.Need-loop-k-smaller invariant-loop-k decreases-loop-k
 loop-less c = search rules
 
-loop-again : tie.Need-loop-preserved invariant-loop decreases-loop
+loop-again : tie.Need-loop-k-preserved invariant-loop-k decreases-loop-k
 loop-again c =
     let x = c.before.before.before.before.before in
     let l = (turned x).before.before in
-    let t = x.try-exchange.ensures in
-    let kept = rw (turn_is (entry l).args.n l.loop.k) at t.0 in
-    (rw (add-one) (tried_more l.loop.inv.0 kept t.1.0 t.1.1 c.idle-after.ensures), omega arith)
+    let t = x.try_exchange-after.ensures in
+    let kept = rw (turn_is (entry l).args.n l.loop-k.k) at t.0 in
+    (rw (add-one) (tried_more l.loop-k.inv.0 kept t.1.0 t.1.1 c.idle_after-idle.ensures), omega arith)
 
-same_length : tie.Need-same-length invariant-loop decreases-loop
-same_length c = work_size c.before.before
+shape_of-work-else-idle-n : tie.Need-shape_of-work-else-idle-n invariant-loop-k decreases-loop-k
+shape_of-work-else-idle-n c = work_size c.before.before
 
-same-length-2 : tie.Need-same-length-2 invariant-loop decreases-loop
-same-length-2 c = numbering_size c.before.before
+shape_of-numbering-else-idle-n : tie.Need-shape_of-numbering-else-idle-n invariant-loop-k decreases-loop-k
+shape_of-numbering-else-idle-n c = numbering_size c.before.before
 
-returns : tie.Need-returns invariant-loop decreases-loop
-returns c =
+returns-else-idle-n : tie.Need-returns-else-idle-n invariant-loop-k decreases-loop-k
+returns-else-idle-n c =
     let l = c.before.before in
-    let i = l.loop.invariant in
-    (tried-settled (two c.before) i.0 (ltb-false _ _ c.if1.false) i.1, (i.0.numbers, i.0.rest))
+    let i = l.loop-k.invariant in
+    (tried-settled (two c.before) i.0 (ltb-false _ _ c.if-idle-n.false) i.1, (i.0.numbers, i.0.rest))
 
-same-length-3 : tie.Need-same-length-3 invariant-loop decreases-loop
-same-length-3 c = work_size c.before
+shape_of-work-after-loop-k : tie.Need-shape_of-work-after-loop-k invariant-loop-k decreases-loop-k
+shape_of-work-after-loop-k c = work_size c.before
 
-same-length-4 : tie.Need-same-length-4 invariant-loop decreases-loop
-same-length-4 c = numbering_size c.before
+shape_of-numbering-after-loop-k : tie.Need-shape_of-numbering-after-loop-k invariant-loop-k decreases-loop-k
+shape_of-numbering-after-loop-k c = numbering_size c.before
 
-returns-2 : tie.Need-returns-2 invariant-loop decreases-loop
-returns-2 c =
-    let i = c.before.loop.invariant in
-    let all : c.before.loop.k ≡ (entry c.before).args.trials = omega (arith, i.1) in
+returns-after-loop-k : tie.Need-returns-after-loop-k invariant-loop-k decreases-loop-k
+returns-after-loop-k c =
+    let i = c.loop-k.invariant in
+    let all : c.loop-k.k ≡ (entry c.before).args.trials = omega (arith, i.1) in
     (rw all at i.0.reached, (i.0.numbers, i.0.rest))
 
 pub make_trials_spec : {M : Type 1} → statement M
 make_trials_spec =
     tie.close
     (tie.spec
-    invariant-loop
-    decreases-loop
+    invariant-loop-k
+    decreases-loop-k
     loop-holds
-    sub-if1
-    sub-t
-    rem-t
-    add-t
-    try-exchange-requires
-    idle-after-requires
-    add-k
+    overflow_sub-n
+    overflow_sub-t
+    nonzero_rem-t
+    overflow_add-t
+    try_exchange-after-requires
+    idle_after-idle-requires
+    overflow_add-k
     loop-less
     loop-again
-    same_length
-    same-length-2
-    returns
-    same-length-3
-    same-length-4
-    returns-2)
+    shape_of-work-else-idle-n
+    shape_of-numbering-else-idle-n
+    returns-else-idle-n
+    shape_of-work-after-loop-k
+    shape_of-numbering-after-loop-k
+    returns-after-loop-k)

@@ -11,10 +11,10 @@ use Rattle.ordering.proofs.moved.Statement.{statement}
 use Rattle.ordering.proofs.moved.Tie as tie
 
 -- Places of the code: where the label's place is found, seen from where the new label is; and the entry before it.
-abbrev found : tie.After-label → tie.After-place-in
+abbrev found : tie.After-label → tie.After-place_in-place
 found c = c.before.before.before.before.before
 
-abbrev entry : tie.After-place-in → tie.Start
+abbrev entry : tie.After-place_in-place → tie.Start
 entry c = c.before.before
 
 -- the positions of the place's row and column
@@ -31,36 +31,36 @@ to c =
 named : (c : tie.After-label) → let q = (entry (found c)).args.positions.now in let r = (found c).IsPlace-in.result in
     (c.label.result ≡ label (entry (found c)).args.n (get_or q r.row 0) (get_or q r.column 0)) × (1 ≤ c.label.result)
 named c =
-    let row = c.before.before.before.before.wide.ensures in
-    let column = c.before.before.wide2.ensures in
+    let row = c.wide.ensures in
+    let column = c.wide-2.ensures in
     place-label _ _ _ (rw (row, column) at c.label.ensures) (entry (found c)).requires.0.0 (to c)
 
-place-in-requires : tie.Need-place-in-requires
-place-in-requires c κs = search rules
+place_in-place-requires : tie.Need-place_in-place-requires
+place_in-place-requires c κs = search rules
 
 wide-requires : tie.Need-wide-requires
 wide-requires c κs = search rules
 
-mul-i : tie.Need-overflow-mul-i
-mul-i c = search rules
+offset_bounds-positions-wide : tie.Need-offset_bounds-positions-wide
+offset_bounds-positions-wide c = search rules
 
-shared-slice-read-i : tie.Need-shared-slice-read-i
-shared-slice-read-i c = search rules
+bounds-positions-wide : tie.Need-bounds-positions-wide
+bounds-positions-wide c = search rules
 
 wide-requires-2 : tie.Need-wide-requires-2
 wide-requires-2 c κs = search rules
 
-mul-j : tie.Need-overflow-mul-j
-mul-j c = search rules
+offset_bounds-positions-wide-2 : tie.Need-offset_bounds-positions-wide-2
+offset_bounds-positions-wide-2 c = search rules
 
-shared-slice-read-j : tie.Need-shared-slice-read-j
-shared-slice-read-j c = search rules
+bounds-positions-wide-2 : tie.Need-bounds-positions-wide-2
+bounds-positions-wide-2 c = search rules
 
 label-requires : tie.Need-label-requires
 label-requires c κs = search rules
 
-sub_wide : tie.Need-overflow-sub-wide
-sub_wide c = (named c).1
+overflow_sub-label : tie.Need-overflow_sub-label
+overflow_sub-label c = (named c).1
 
 wide-requires-3 : tie.Need-wide-requires-3
 wide-requires-3 c κs = search rules
@@ -74,21 +74,21 @@ returns c =
       column = (found l).IsPlace-in.result.column;
       inside = p.0;
       label_is = p.1;
-      index_is = omega (arith, c.wide3.ensures, named l);
+      index_is = omega (arith, c.wide-3.ensures, named l);
     }
 
 pub moved_spec : {M : Type 1} → statement M
 moved_spec =
     tie.close
     (tie.spec
-    place-in-requires
+    place_in-place-requires
     wide-requires
-    mul-i
-    shared-slice-read-i
+    offset_bounds-positions-wide
+    bounds-positions-wide
     wide-requires-2
-    mul-j
-    shared-slice-read-j
+    offset_bounds-positions-wide-2
+    bounds-positions-wide-2
     label-requires
-    sub_wide
+    overflow_sub-label
     wide-requires-3
     returns)

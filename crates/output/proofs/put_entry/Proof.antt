@@ -5,22 +5,22 @@ use Rattle.output.proofs.Places.{put_byte}
 use Rattle.output.proofs.put_entry.Statement.{statement}
 use Rattle.output.proofs.put_entry.Tie as tie
 
-put-decimal-requires : tie.Need-put-decimal-requires
-put-decimal-requires c κs = search rules
+put_decimal-end-requires : tie.Need-put_decimal-end-requires
+put_decimal-end-requires c κs = search rules
 
-slice-write-out : tie.Need-slice-write-out
-slice-write-out c = search rules
+bounds-out-end : tie.Need-bounds-out-end
+bounds-out-end c = search rules
 
-add-result : tie.Need-overflow-add-result
-add-result c = search rules
+overflow_add-result : tie.Need-overflow_add-result
+overflow_add-result c = search rules
 
-same_length : tie.Need-same-length
-same_length c = search rules
+shape_of-out : tie.Need-shape_of-out
+shape_of-out c = search rules
 
 returns : tie.Need-returns
 unfolding entry
-returns c = put_byte _ c.before.before.put-decimal.ensures (slice-write-out c)
+returns c = put_byte _ c.put_decimal-end.ensures (bounds-out-end c)
 
-pub put-entry_spec : {M : Type 1} → statement M
-put-entry_spec =
-    tie.close (tie.spec put-decimal-requires slice-write-out add-result same_length returns)
+pub put_entry_spec : {M : Type 1} → statement M
+put_entry_spec =
+    tie.close (tie.spec put_decimal-end-requires bounds-out-end overflow_add-result shape_of-out returns)

@@ -6,32 +6,32 @@ use Rattle.output.proofs.Places.{put-none, put_byte}
 use Rattle.output.proofs.put_refused.Statement.{statement}
 use Rattle.output.proofs.put_refused.Tie as tie
 
-slice-write-out : tie.Need-slice-write-out
-slice-write-out c = search rules
+bounds-out-0 : tie.Need-bounds-out-0
+bounds-out-0 c = search rules
 
-slice-write-out-2 : tie.Need-slice-write-out-2
-slice-write-out-2 c = simp length-set (omega arith)
+bounds-out-1 : tie.Need-bounds-out-1
+bounds-out-1 c = simp length-set (omega arith)
 
-slice-write-out-3 : tie.Need-slice-write-out-3
-slice-write-out-3 c = simp length-set (omega arith)
+bounds-out-2 : tie.Need-bounds-out-2
+bounds-out-2 c = simp length-set (omega arith)
 
-slice-write-out-4 : tie.Need-slice-write-out-4
-slice-write-out-4 c = simp length-set (omega arith)
+bounds-out-3 : tie.Need-bounds-out-3
+bounds-out-3 c = simp length-set (omega arith)
 
-slice-write-out-5 : tie.Need-slice-write-out-5
-slice-write-out-5 c = simp length-set (omega arith)
+bounds-out-4 : tie.Need-bounds-out-4
+bounds-out-4 c = simp length-set (omega arith)
 
-slice-write-out-6 : tie.Need-slice-write-out-6
-slice-write-out-6 c = simp length-set (omega arith)
+bounds-out-5 : tie.Need-bounds-out-5
+bounds-out-5 c = simp length-set (omega arith)
 
-slice-write-out-7 : tie.Need-slice-write-out-7
-slice-write-out-7 c = simp length-set (omega arith)
+bounds-out-6 : tie.Need-bounds-out-6
+bounds-out-6 c = simp length-set (omega arith)
 
-slice-write-out-8 : tie.Need-slice-write-out-8
-slice-write-out-8 c = search rules
+bounds-out-7 : tie.Need-bounds-out-7
+bounds-out-7 c = search rules
 
-same_length : tie.Need-same-length
-same_length c = search rules
+shape_of-out : tie.Need-shape_of-out
+shape_of-out c = search rules
 
 returns : tie.Need-returns
 returns c =
@@ -44,17 +44,17 @@ returns c =
     let refused = put_byte 100 refuse (simp length-set (omega arith)) in
     put_byte 32 refused (simp length-set (omega arith))
 
-pub put-refused_spec : {M : Type 1} → statement M
-put-refused_spec =
+pub put_refused_spec : {M : Type 1} → statement M
+put_refused_spec =
     tie.close
     (tie.spec
-    slice-write-out
-    slice-write-out-2
-    slice-write-out-3
-    slice-write-out-4
-    slice-write-out-5
-    slice-write-out-6
-    slice-write-out-7
-    slice-write-out-8
-    same_length
+    bounds-out-0
+    bounds-out-1
+    bounds-out-2
+    bounds-out-3
+    bounds-out-4
+    bounds-out-5
+    bounds-out-6
+    bounds-out-7
+    shape_of-out
     returns)

@@ -7,27 +7,27 @@ use Rattle.output.proofs.Places.{Room, room_for, room_after, put_more, put-line}
 use Rattle.output.proofs.refusal_line.Statement.{statement}
 use Rattle.output.proofs.refusal_line.Tie as tie
 
-put-refused-requires : tie.Need-put-refused-requires
-put-refused-requires c κs = search rules
+put_refused-first-requires : tie.Need-put_refused-first-requires
+put_refused-first-requires c κs = search rules
 
 -- the place that is reached after the word and after the number, and the buffer then
-after-word : (c : tie.After-put-refused) → Room 8 c.Put-refused.result c.Put-refused.new.0
+after-word : (c : tie.After-put_refused-first) → Room 8 c.Put-refused.result c.Put-refused.new.0
 after-word c = record { below = omega (arith, c.Put-refused.ensures.place); size = omega (arith, c.Put-refused.auto.0) }
 
-after-number : (c : tie.After-put-entry) → Room 19 c.put-entry.result c.put-entry.new.1.1.1.0
+after-number : (c : tie.After-put_entry-second) → Room 19 c.put_entry-second.result c.put_entry-second.new.1.1.1.0
 after-number c =
     let word = c.before.before.before.before in
     let s = word.before.before.before in
     let few = decimal-short _ s.ranges.number.fits in
-    room_after (after-word word) s.args.number few 32 c.put-entry.ensures c.put-entry.auto.1.1.1.0
+    room_after (after-word word) s.args.number few 32 c.put_entry-second.ensures c.put_entry-second.auto.1.1.1.0
 
-put-entry-requires : tie.Need-put-entry-requires
-put-entry-requires c κs =
+put_entry-second-requires : tie.Need-put_entry-second-requires
+put_entry-second-requires c κs =
     let s = c.before.before.before.before.before.before in
     room_for (after-word c.before.before.before) s.args.number (decimal-short _ s.ranges.number.fits) (omega arith)
 
-put-entry-requires-2 : tie.Need-put-entry-requires-2
-put-entry-requires-2 c κs =
+put_entry-requires : tie.Need-put_entry-requires
+put_entry-requires c κs =
     let number = c.before.before in
     let word = number.before.before.before.before in
     let s = word.before.before.before in
@@ -40,9 +40,9 @@ returns c =
     let word = number.before.before.before.before in
     let s = word.before.before.before in
     let few = decimal-long _ s.ranges.detail.fits in
-    let end = room_after (after-number number) s.args.detail few 10 c.put-entry2.ensures c.put-entry2.auto.1.1.1.0 in
-    put-line (put_more word.Put-refused.ensures (put_more number.put-entry.ensures c.put-entry2.ensures)) end (omega arith)
+    let end = room_after (after-number number) s.args.detail few 10 c.put_entry.ensures c.put_entry.auto.1.1.1.0 in
+    put-line (put_more word.Put-refused.ensures (put_more number.put_entry-second.ensures c.put_entry.ensures)) end (omega arith)
 
-pub refusal-line_spec : {M : Type 1} → statement M
-refusal-line_spec =
-    tie.close (tie.spec put-refused-requires put-entry-requires put-entry-requires-2 returns)
+pub refusal_line_spec : {M : Type 1} → statement M
+refusal_line_spec =
+    tie.close (tie.spec put_refused-first-requires put_entry-second-requires put_entry-requires returns)

@@ -10,38 +10,38 @@ use Rattle.paths.proofs.fill_path.Tie as tie
 check-requires : tie.Need-check-requires
 check-requires c κs = search rules
 
-enum-known-number : tie.Need-enum-known-number
-enum-known-number c = search rules
+enum_known-number : tie.Need-enum_known-number
+enum_known-number c = search rules
 
-enum_told : tie.Need-enum-told
-enum_told c = search rules
+enum_told-1 : tie.Need-enum_told-1
+enum_told-1 c = search rules
 
-trace-good-requires : tie.Need-trace-good-requires
-trace-good-requires c κs = rw (one-mul _) at (sym c.before.before.before.before.check.ensures ∙ ap labels_of c.before.before.enum_told.given.1)
+trace_good-requires : tie.Need-trace_good-requires
+trace_good-requires c κs = rw (one-mul _) at (sym c.check.ensures ∙ ap labels_of c.enum_told-1.given.1)
 
-returns : tie.Need-returns
-returns c =
-    let e = rw (one-mul _) at (sym c.before.before.before.check.ensures ∙ ap labels_of c.before.number.given.1) in
+returns-in-Bad : tie.Need-returns-in-Bad
+returns-in-Bad c =
+    let e = rw (one-mul _) at (sym c.check.ensures ∙ ap labels_of c.number-1.given.1) in
     (record { decided = tracing-early _ _ _ _ _ _ _ _ e; list = refl }, sym (work_early _ _ _ _ _ e))
 
-same_length : tie.Need-same-length
-same_length c = search rules
+shape_of-work : tie.Need-shape_of-work
+shape_of-work c = search rules
 
-same-length-2 : tie.Need-same-length-2
-same-length-2 c = search rules
+shape_of-list : tie.Need-shape_of-list
+shape_of-list c = search rules
 
-returns-2 : tie.Need-returns-2
-returns-2 c = search rules
+returns-in-Good : tie.Need-returns-in-Good
+returns-in-Good c = search rules
 
 pub fill_path_spec : {M : Type 1} → statement M
 fill_path_spec =
     tie.close
     (tie.spec
     check-requires
-    enum-known-number
-    enum_told
-    trace-good-requires
-    returns
-    same_length
-    same-length-2
-    returns-2)
+    enum_known-number
+    enum_told-1
+    trace_good-requires
+    returns-in-Bad
+    shape_of-work
+    shape_of-list
+    returns-in-Good)

@@ -12,35 +12,35 @@ use Rattle.plans.proofs.Places.{labelled, unlabelled}
 use Rattle.paths.proofs.is_held.Statement.{statement}
 use Rattle.paths.proofs.is_held.Tie as tie
 
-label-requires : tie.Need-label-requires
-label-requires c κs = search rules
+label-k-requires : tie.Need-label-k-requires
+label-k-requires c κs = search rules
 
-sub_wide : tie.Need-overflow-sub-wide
-sub_wide c = search rules
+overflow_sub-k : tie.Need-overflow_sub-k
+overflow_sub-k c = search rules
 
 wide-requires : tie.Need-wide-requires
 wide-requires c κs = search rules
 
-mul-result : tie.Need-overflow-mul-result
-mul-result c = search rules
+offset_bounds-work-wide : tie.Need-offset_bounds-work-wide
+offset_bounds-work-wide c = search rules
 
 -- there is a label, and the work number read is its own
-there : (c : tie.After-wide) → let a = c.before.before.before.before.args in
+there : (c : tie.After-wide) → let a = c.args in
     (is_place a.n a.i a.j ≡ true) × (c.wide.result ≡ label a.n a.i a.j - 1)
 there c =
-    let l = labelled _ _ _ c.before.before.label.ensures c.before.if1.true in
+    let l = labelled _ _ _ c.label-k.ensures c.if-k-gt0.true in
     (l.0, omega arith)
 
-shared-slice-read-result : tie.Need-shared-slice-read-result
-shared-slice-read-result c =
+bounds-work-wide : tie.Need-bounds-work-wide
+bounds-work-wide c =
     let t = there c.before in
     omega (arith, t.1, label-range _ _ _ (is_place_true _ _ _ (sym t.0)).1)
 
-returns : tie.Need-returns
-returns c = let t = there c.before in rw (t.0, t.1)
+returns-then-k-gt0 : tie.Need-returns-then-k-gt0
+returns-then-k-gt0 c = let t = there c.before in rw (t.0, t.1)
 
-returns-2 : tie.Need-returns-2
-returns-2 c = rw (unlabelled _ _ _ c.before.label.ensures c.if1.false, le-ltb _ _ c.if1.false)
+returns-else-k-gt0 : tie.Need-returns-else-k-gt0
+returns-else-k-gt0 c = rw (unlabelled _ _ _ c.label-k.ensures c.if-k-gt0.false, le-ltb _ _ c.if-k-gt0.false)
 
 pub is_held_spec : {M : Type 1} → statement M
-is_held_spec = tie.close (tie.spec label-requires sub_wide wide-requires mul-result shared-slice-read-result returns returns-2)
+is_held_spec = tie.close (tie.spec label-k-requires overflow_sub-k wide-requires offset_bounds-work-wide bounds-work-wide returns-then-k-gt0 returns-else-k-gt0)

@@ -10,68 +10,68 @@ use Rattle.paths.proofs.Trails.{Tracing, begun, counted, on_trail, turned, shown
 use Rattle.paths.proofs.trace.Statement.{statement}
 use Rattle.paths.proofs.trace.Tie as tie
 
-abbrev invariant-loop : tie.invariant-loop
-invariant-loop n plan work rows columns i j list₀ stack₀ trail₀ list stack trail = Tracing n plan i j list₀ list stack trail
+abbrev invariant-loop-trail : tie.invariant-loop-trail
+invariant-loop-trail n plan work rows columns i j list₀ stack₀ trail₀ list stack trail = Tracing n plan i j list₀ list stack trail
 
-abbrev decreases-loop : tie.decreases-loop
-decreases-loop n plan work rows columns i j list₀ stack₀ trail₀ list stack trail = 2 * length (left n plan stack trail) + trail.next
+abbrev decreases-loop-trail : tie.decreases-loop-trail
+decreases-loop-trail n plan work rows columns i j list₀ stack₀ trail₀ list stack trail = 2 * length (left n plan stack trail) + trail.next
 
 -- Places of the code: the loop's head, with the entry before it; and a turn.
-abbrev entry : tie.At-loop invariant-loop decreases-loop → tie.Start invariant-loop decreases-loop
+abbrev entry : tie.At-loop-trail invariant-loop-trail decreases-loop-trail → tie.Start invariant-loop-trail decreases-loop-trail
 entry c = c.before.before.before.before.before.before
 
-abbrev head : tie.After-stack2 invariant-loop decreases-loop → tie.At-loop invariant-loop decreases-loop
+abbrev head : tie.After-stack-in-loop-trail-1 invariant-loop-trail decreases-loop-trail → tie.At-loop-trail invariant-loop-trail decreases-loop-trail
 head c = c.before.before.before.before.before.before.before.before
 
-array-write-stack : tie.Need-array-write-stack invariant-loop decreases-loop
-array-write-stack c = search rules
+bounds-stack-600 : tie.Need-bounds-stack-600 invariant-loop-trail decreases-loop-trail
+bounds-stack-600 c = search rules
 
-slice-write-list : tie.Need-slice-write-list invariant-loop decreases-loop
-slice-write-list c = omega (arith, c.before.before.before.before.before.requires.1.1)
+bounds-list-0 : tie.Need-bounds-list-0 invariant-loop-trail decreases-loop-trail
+bounds-list-0 c = omega (arith, c.requires.1.1)
 
-loop-holds : tie.Need-loop-init invariant-loop decreases-loop
+loop-holds : tie.Need-loop-trail-init invariant-loop-trail decreases-loop-trail
 loop-holds c =
     let e = c.before.before.before.before.before in
     begun e.requires.1.0 e.args.list.now (replicate 601 0) e.requires.1.1 (length-replicate {A = ℕ} 601 0)
 
-slice-aggregate-go-on : tie.Need-slice-aggregate-go-on invariant-loop decreases-loop
-slice-aggregate-go-on c = search rules
+slice_bounds-go_on-end : tie.Need-slice_bounds-go_on-end invariant-loop-trail decreases-loop-trail
+slice_bounds-go_on-end c = search rules
 
-go-on-requires : tie.Need-go-on-requires invariant-loop decreases-loop
-go-on-requires c κs =
+go_on-trail-requires : tie.Need-go_on-trail-requires invariant-loop-trail decreases-loop-trail
+go_on-trail-requires c κs =
     let h = c.before.before.before.before in
     let p = (entry h).requires in
     let long = length-set (entry h).args.list.now 0 (entry h).args.i in
-    (p.0, (on_trail p.1.0 h.loop.invariant p.0.high (omega (arith, p.1.1, long)), c.before.before.if1.true))
+    (p.0, (on_trail p.1.0 h.loop-trail.invariant p.0.high (omega (arith, p.1.1, long)), c.loop-trail-test.true))
 
-loop-less : tie.Need-loop-smaller invariant-loop decreases-loop
-loop-less c = c.before.before.before.go_on.ensures.less
+loop-less : tie.Need-loop-trail-smaller invariant-loop-trail decreases-loop-trail
+loop-less c = c.go_on-trail.ensures.less
 
-loop-again : tie.Need-loop-preserved invariant-loop decreases-loop
-loop-again c = turned (entry (head c)).pre.1.0 (head c).loop.invariant c.before.before.before.go_on.ensures
+loop-again : tie.Need-loop-trail-preserved invariant-loop-trail decreases-loop-trail
+loop-again c = turned (entry (head c)).pre.1.0 (head c).loop.invariant c.go_on-trail.ensures
 
-cast-result : tie.Need-overflow-cast-result invariant-loop decreases-loop
-cast-result c = let h = c.before.before.before in omega (arith, counted (entry h).requires.1.0 h.loop.invariant, (entry h).requires.0.high)
+overflow_cast-result : tie.Need-overflow_cast-result invariant-loop-trail decreases-loop-trail
+overflow_cast-result c = let h = c.before.before.before in omega (arith, counted (entry h).requires.1.0 h.loop-trail.invariant, (entry h).requires.0.high)
 
-same_length : tie.Need-same-length invariant-loop decreases-loop
-same_length c = let h = c.before.before.before in h.loop.invariant.long ∙ length-set (entry h).args.list.now 0 (entry h).args.i
+shape_of-list : tie.Need-shape_of-list invariant-loop-trail decreases-loop-trail
+shape_of-list c = let h = c.before.before.before in h.loop-trail.invariant.long ∙ length-set (entry h).args.list.now 0 (entry h).args.i
 
-returns : tie.Need-returns invariant-loop decreases-loop
-returns c = let h = c.before.before.before in shown (entry h).requires.1.0 h.loop.invariant _ refl c.before.if1.false
+returns : tie.Need-returns invariant-loop-trail decreases-loop-trail
+returns c = let h = c.before.before.before in shown (entry h).requires.1.0 h.loop-trail.invariant _ refl c.loop-trail-test.false
 
 pub trace_spec : {M : Type 1} → statement M
 trace_spec =
     tie.close
     (tie.spec
-    invariant-loop
-    decreases-loop
-    array-write-stack
-    slice-write-list
+    invariant-loop-trail
+    decreases-loop-trail
+    bounds-stack-600
+    bounds-list-0
     loop-holds
-    slice-aggregate-go-on
-    go-on-requires
+    slice_bounds-go_on-end
+    go_on-trail-requires
     loop-less
     loop-again
-    cast-result
-    same_length
+    overflow_cast-result
+    shape_of-list
     returns)

@@ -15,174 +15,174 @@ use Rattle.plans.proofs.Middle.{Seeking, pair_inside, start, indices, found, lar
 use Rattle.plans.proofs.between.Statement.{statement}
 use Rattle.plans.proofs.between.Tie as tie
 
-abbrev invariant-loop : tie.invariant-loop
-invariant-loop n work rows columns i j h₀ low₀ high₀ h low high =
+abbrev invariant-loop-left : tie.invariant-loop-left
+invariant-loop-left n work rows columns i j h₀ low₀ high₀ h low high =
     (L : Plan) → Stands n L work rows columns → Filled n L i j → Seeking n L i j h low high
 
-abbrev decreases-loop : tie.decreases-loop
-decreases-loop n work rows columns i j h₀ low₀ high₀ h low high = n - h
+abbrev decreases-loop-left : tie.decreases-loop-left
+decreases-loop-left n work rows columns i j h₀ low₀ high₀ h low high = n - h
 
 -- Places of the code: where the search starts, with the entry before it; the loop's head; and a turn.
-abbrev entry : tie.After-larger2 invariant-loop decreases-loop → tie.Start invariant-loop decreases-loop
+abbrev entry : tie.After-larger-h invariant-loop-left decreases-loop-left → tie.Start invariant-loop-left decreases-loop-left
 entry c = c.before.before.before.before.before.before.before.before.before
 
-abbrev from : tie.At-loop invariant-loop decreases-loop → tie.After-larger2 invariant-loop decreases-loop
+abbrev from : tie.At-loop-left invariant-loop-left decreases-loop-left → tie.After-larger-h invariant-loop-left decreases-loop-left
 from c = c.before.before.before.before.before
 
-abbrev head : tie.After-wide5 invariant-loop decreases-loop → tie.At-loop invariant-loop decreases-loop
+abbrev head : tie.After-wide-left invariant-loop-left decreases-loop-left → tie.At-loop-left invariant-loop-left decreases-loop-left
 head c = c.before.before.before
 
 -- what is known of a plan, from the entry on
-abbrev Here : Plan → tie.Start invariant-loop decreases-loop → Type 0
+abbrev Here : Plan → tie.Start invariant-loop-left decreases-loop-left → Type 0
 Here L c = let a = c.args in Stands a.n L a.work.now a.rows.now a.columns.now × Filled a.n L a.i a.j
 
-begun : {L : Plan} (c : tie.After-larger2 invariant-loop decreases-loop) → Here L (entry c) → let a = (entry c).args in
-    (1 ≤ c.larger2.result) × (c.larger2.result ≤ middle a.n L a.i a.j)
+begun : {L : Plan} (c : tie.After-larger-h invariant-loop-left decreases-loop-left) → Here L (entry c) → let a = (entry c).args in
+    (1 ≤ c.larger-h.result) × (c.larger-h.result ≤ middle a.n L a.i a.j)
 begun c p =
     let l = c.before in
-    start p.0 p.1 l.before.before.before.before.wide.ensures l.before.before.wide2.ensures l.larger.ensures c.larger2.ensures
+    start p.0 p.1 l.wide.ensures l.wide-2.ensures l.larger.ensures c.larger-h.ensures
 
-first : {L : Plan} (c : tie.After-label invariant-loop decreases-loop) → Here L (entry c.before) → let a = (entry c.before).args in
-    (c.label.result ≡ label a.n a.i c.before.larger2.result) × (1 ≤ c.label.result)
+first : {L : Plan} (c : tie.After-label invariant-loop-left decreases-loop-left) → Here L (entry c.before) → let a = (entry c.before).args in
+    (c.label.result ≡ label a.n a.i c.larger-h.result) × (1 ≤ c.label.result)
 first c p =
     let b = begun c.before p in
     place-label _ _ _ c.label.ensures p.0.high (pair_inside p.0 p.1 _ b.0 b.1).0
 
-second : {L : Plan} (c : tie.After-label2 invariant-loop decreases-loop) → let f = c.before.before.before in Here L (entry f) → let a = (entry f).args in
-    (c.label2.result ≡ label a.n f.larger2.result a.j) × (1 ≤ c.label2.result)
+second : {L : Plan} (c : tie.After-label-2 invariant-loop-left decreases-loop-left) → let f = c.before.before.before in Here L (entry f) → let a = (entry f).args in
+    (c.label-2.result ≡ label a.n f.larger-h.result a.j) × (1 ≤ c.label-2.result)
 second c p =
     let b = begun c.before.before.before p in
-    place-label _ _ _ c.label2.ensures p.0.high (pair_inside p.0 p.1 _ b.0 b.1).1
+    place-label _ _ _ c.label-2.ensures p.0.high (pair_inside p.0 p.1 _ b.0 b.1).1
 
 -- none at h
-further : {L : Plan} (c : tie.After-wide5 invariant-loop decreases-loop) → let e = entry (from (head c)) in Here L e → (head c).loop.h < middle e.args.n L e.args.i e.args.j
+further : {L : Plan} (c : tie.After-wide-left invariant-loop-left decreases-loop-left) → let e = entry (from (head c)) in Here L e → (head c).loop.h < middle e.args.n L e.args.i e.args.j
 further {L} c p =
     let h = head c in
-    larger p.0 p.1 (h.loop.inv L p.0 p.1) c.before.before.both_used.ensures (not-true _ c.before.if1.true)
+    larger p.0 p.1 (h.loop-left.inv L p.0 p.1) c.both_used.ensures (not-true _ c.loop-left-test.true)
 
 -- the plan that is there
-some : (c : tie.Start invariant-loop decreases-loop) → Here c.requires.plan c
+some : (c : tie.Start invariant-loop-left decreases-loop-left) → Here c.requires.plan c
 some c = (c.requires.stands, c.requires.filled)
 
-bounds : (c : tie.At-loop invariant-loop decreases-loop) → let l = c.loop in let a = (entry (from c)).args in
+bounds : (c : tie.At-loop-left invariant-loop-left decreases-loop-left) → let l = c.loop-left in let a = (entry (from c)).args in
     (l.low < length a.work.now) × (l.high < length a.work.now) × (l.low < 360000) × (l.high < 360000) × (l.h < a.n) × (a.n ≤ 600)
-bounds c = let p = some (entry (from c)) in indices p.0 p.1 (c.loop.invariant _ p.0 p.1)
+bounds c = let p = some (entry (from c)) in indices p.0 p.1 (c.loop-left.invariant _ p.0 p.1)
 
-wide-requires : tie.Need-wide-requires invariant-loop decreases-loop
+wide-requires : tie.Need-wide-requires invariant-loop-left decreases-loop-left
 wide-requires c κs = search rules
 
-mul-larger : tie.Need-overflow-mul-larger invariant-loop decreases-loop
-mul-larger c = search rules
+offset_bounds-rows-wide : tie.Need-offset_bounds-rows-wide invariant-loop-left decreases-loop-left
+offset_bounds-rows-wide c = search rules
 
-shared-slice-read-larger : tie.Need-shared-slice-read-larger invariant-loop decreases-loop
-shared-slice-read-larger c = search rules
+bounds-rows-wide : tie.Need-bounds-rows-wide invariant-loop-left decreases-loop-left
+bounds-rows-wide c = search rules
 
-wide-requires-2 : tie.Need-wide-requires-2 invariant-loop decreases-loop
+wide-requires-2 : tie.Need-wide-requires-2 invariant-loop-left decreases-loop-left
 wide-requires-2 c κs = search rules
 
-mul-larger-2 : tie.Need-overflow-mul-larger-2 invariant-loop decreases-loop
-mul-larger-2 c = search rules
+offset_bounds-columns-wide : tie.Need-offset_bounds-columns-wide invariant-loop-left decreases-loop-left
+offset_bounds-columns-wide c = search rules
 
-shared-slice-read-larger-2 : tie.Need-shared-slice-read-larger-2 invariant-loop decreases-loop
-shared-slice-read-larger-2 c = search rules
+bounds-columns-wide : tie.Need-bounds-columns-wide invariant-loop-left decreases-loop-left
+bounds-columns-wide c = search rules
 
-larger-requires : tie.Need-larger-requires invariant-loop decreases-loop
+larger-requires : tie.Need-larger-requires invariant-loop-left decreases-loop-left
 larger-requires c κs = search rules
 
-larger-requires-2 : tie.Need-larger-requires-2 invariant-loop decreases-loop
-larger-requires-2 c κs = search rules
+larger-h-requires : tie.Need-larger-h-requires invariant-loop-left decreases-loop-left
+larger-h-requires c κs = search rules
 
-label-requires : tie.Need-label-requires invariant-loop decreases-loop
+label-requires : tie.Need-label-requires invariant-loop-left decreases-loop-left
 label-requires c κs = search rules
 
-sub_wide : tie.Need-overflow-sub-wide invariant-loop decreases-loop
-sub_wide c = (first c (some (entry c.before))).1
+overflow_sub-label : tie.Need-overflow_sub-label invariant-loop-left decreases-loop-left
+overflow_sub-label c = (first c (some (entry c.before))).1
 
-wide-requires-3 : tie.Need-wide-requires-3 invariant-loop decreases-loop
-wide-requires-3 c κs = search rules
+wide-low-requires : tie.Need-wide-low-requires invariant-loop-left decreases-loop-left
+wide-low-requires c κs = search rules
 
-label-requires-2 : tie.Need-label-requires-2 invariant-loop decreases-loop
+label-requires-2 : tie.Need-label-requires-2 invariant-loop-left decreases-loop-left
 label-requires-2 c κs = search rules
 
-sub-wide-2 : tie.Need-overflow-sub-wide-2 invariant-loop decreases-loop
-sub-wide-2 c = (second c (some (entry c.before.before.before))).1
+overflow_sub-label-2 : tie.Need-overflow_sub-label-2 invariant-loop-left decreases-loop-left
+overflow_sub-label-2 c = (second c (some (entry c.before.before.before))).1
 
-wide-requires-4 : tie.Need-wide-requires-4 invariant-loop decreases-loop
-wide-requires-4 c κs = search rules
+wide-high-requires : tie.Need-wide-high-requires invariant-loop-left decreases-loop-left
+wide-high-requires c κs = search rules
 
-loop-holds : tie.Need-loop-init invariant-loop decreases-loop
+loop-holds : tie.Need-loop-left-init invariant-loop-left decreases-loop-left
 loop-holds c = λ L stands filled.
     let l = c.before in
     let k = l.before.before in
     let b = begun k.before (stands, filled) in
     record { from = b.0; up_to = b.1; low-at = omega (arith, first k (stands, filled)); high-at = omega (arith, second l (stands, filled)) }
 
-both-used-requires : tie.Need-both-used-requires invariant-loop decreases-loop
-both-used-requires c κs = let b = bounds c in (b.0, b.1)
+both_used-requires : tie.Need-both_used-requires invariant-loop-left decreases-loop-left
+both_used-requires c κs = let b = bounds c in (b.0, b.1)
 
-sub-wide-3 : tie.Need-overflow-sub-wide-3 invariant-loop decreases-loop
-sub-wide-3 c = omega (arith, bounds c.before.before)
+overflow_sub-n : tie.Need-overflow_sub-n invariant-loop-left decreases-loop-left
+overflow_sub-n c = omega (arith, bounds c.before.before)
 
-wide-requires-5 : tie.Need-wide-requires-5 invariant-loop decreases-loop
-wide-requires-5 c κs = search rules
+wide-left-requires : tie.Need-wide-left-requires invariant-loop-left decreases-loop-left
+wide-left-requires c κs = search rules
 
-add_low : tie.Need-overflow-add-low invariant-loop decreases-loop
-add_low c = search rules
+overflow_add-low : tie.Need-overflow_add-low invariant-loop-left decreases-loop-left
+overflow_add-low c = search rules
 
-add-low-2 : tie.Need-overflow-add-low-2 invariant-loop decreases-loop
-add-low-2 c = omega (arith, bounds (head c))
+overflow_add-low-in-loop-left : tie.Need-overflow_add-low-in-loop-left invariant-loop-left decreases-loop-left
+overflow_add-low-in-loop-left c = omega (arith, bounds (head c))
 
-add-high : tie.Need-overflow-add-high invariant-loop decreases-loop
-add-high c = search rules
+overflow_add-high : tie.Need-overflow_add-high invariant-loop-left decreases-loop-left
+overflow_add-high c = search rules
 
-sub-high : tie.Need-overflow-sub-high invariant-loop decreases-loop
-sub-high c = omega (arith, bounds (head c), c.wide5.ensures)
+overflow_sub-high : tie.Need-overflow_sub-high invariant-loop-left decreases-loop-left
+overflow_sub-high c = omega (arith, bounds (head c), c.wide-left.ensures)
 
-add-high-2 : tie.Need-overflow-add-high-2 invariant-loop decreases-loop
-add-high-2 c = omega (arith, bounds (head c))
+overflow_add-high-in-loop-left : tie.Need-overflow_add-high-in-loop-left invariant-loop-left decreases-loop-left
+overflow_add-high-in-loop-left c = omega (arith, bounds (head c))
 
-add-h : tie.Need-overflow-add-h invariant-loop decreases-loop
-add-h c = omega (arith, bounds (head c))
+overflow_add-h : tie.Need-overflow_add-h invariant-loop-left decreases-loop-left
+overflow_add-h c = omega (arith, bounds (head c))
 
-loop-less : tie.Need-loop-smaller invariant-loop decreases-loop
+loop-less : tie.Need-loop-left-smaller invariant-loop-left decreases-loop-left
 loop-less c = omega (arith, bounds (head c))
 
-loop-again : tie.Need-loop-preserved invariant-loop decreases-loop
-loop-again c = λ L stands filled. onward stands filled ((head c).loop.invariant L stands filled) _ c.wide5.ensures (further c (stands, filled))
+loop-again : tie.Need-loop-left-preserved invariant-loop-left decreases-loop-left
+loop-again c = λ L stands filled. onward stands filled ((head c).loop.invariant L stands filled) _ c.wide-left.ensures (further c (stands, filled))
 
-returns : tie.Need-returns invariant-loop decreases-loop
-returns c = λ L stands filled. found stands filled (c.before.before.loop.invariant L stands filled) c.before.both_used.ensures (not-false _ c.if1.false)
+returns : tie.Need-returns invariant-loop-left decreases-loop-left
+returns c = λ L stands filled. found stands filled (c.loop-left.invariant L stands filled) c.both_used.ensures (not-false _ c.loop-left-test.false)
 
 pub between_spec : {M : Type 1} → statement M
 between_spec =
     tie.close
     (tie.spec
-    invariant-loop
-    decreases-loop
+    invariant-loop-left
+    decreases-loop-left
     wide-requires
-    mul-larger
-    shared-slice-read-larger
+    offset_bounds-rows-wide
+    bounds-rows-wide
     wide-requires-2
-    mul-larger-2
-    shared-slice-read-larger-2
+    offset_bounds-columns-wide
+    bounds-columns-wide
     larger-requires
-    larger-requires-2
+    larger-h-requires
     label-requires
-    sub_wide
-    wide-requires-3
+    overflow_sub-label
+    wide-low-requires
     label-requires-2
-    sub-wide-2
-    wide-requires-4
+    overflow_sub-label-2
+    wide-high-requires
     loop-holds
-    both-used-requires
-    sub-wide-3
-    wide-requires-5
-    add_low
-    add-low-2
-    add-high
-    sub-high
-    add-high-2
-    add-h
+    both_used-requires
+    overflow_sub-n
+    wide-left-requires
+    overflow_add-low
+    overflow_add-low-in-loop-left
+    overflow_add-high
+    overflow_sub-high
+    overflow_add-high-in-loop-left
+    overflow_add-h
     loop-less
     loop-again
     returns)

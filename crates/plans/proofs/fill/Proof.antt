@@ -18,19 +18,19 @@ fill-requires c κs =
     let p = (entry m).requires in
     (p.0.0, (omega (arith, p.1.0, m.mark.ensures.size), p.1.1))
 
-same_length : tie.Need-same-length
-same_length c = search rules
+shape_of-work : tie.Need-shape_of-work
+shape_of-work c = search rules
 
-same-length-2 : tie.Need-same-length-2
-same-length-2 c = search rules
+shape_of-rows : tie.Need-shape_of-rows
+shape_of-rows c = search rules
 
-same-length-3 : tie.Need-same-length-3
-same-length-3 c = search rules
+shape_of-columns : tie.Need-shape_of-columns
+shape_of-columns c = search rules
 
 returns : tie.Need-returns
 returns c =
     let f = c.before.before.before.before.before.before in
-    filled f.before.before.before.before.before.before.mark.ensures f.fill.ensures
+    filled f.mark.ensures f.fill.ensures
 
 pub fill_spec : {M : Type 1} → statement M
-fill_spec = tie.close (tie.spec mark-requires fill-requires same_length same-length-2 same-length-3 returns)
+fill_spec = tie.close (tie.spec mark-requires fill-requires shape_of-work shape_of-rows shape_of-columns returns)

@@ -15,86 +15,86 @@ use Rattle.model.proofs.Judging.{judged-end, judged-outside, judged_fallen, judg
 use Rattle.plans.proofs.judge.Statement.{statement}
 use Rattle.plans.proofs.judge.Tie as tie
 
-abbrev invariant-loop : tie.invariant-loop
-invariant-loop n plan top before₀ k₀ before k = (k ≤ length plan) × (judged n 0 1 plan ≡ judged n before (suc k) (drop k plan))
+abbrev invariant-loop-k : tie.invariant-loop-k
+invariant-loop-k n plan top before₀ k₀ before k = (k ≤ length plan) × (judged n 0 1 plan ≡ judged n before (suc k) (drop k plan))
 
-abbrev decreases-loop : tie.decreases-loop
-decreases-loop n plan top before₀ k₀ before k = length plan - k
+abbrev decreases-loop-k : tie.decreases-loop-k
+decreases-loop-k n plan top before₀ k₀ before k = length plan - k
 
 -- Places of the code: where a label lies in range, with the loop's head and the entry before it.
-abbrev head : tie.Else1 invariant-loop decreases-loop → tie.At-loop invariant-loop decreases-loop
+abbrev head : tie.Else-not-within invariant-loop-k decreases-loop-k → tie.At-loop-k invariant-loop-k decreases-loop-k
 head c = c.before.before.before.before
 
-abbrev entry : tie.Else1 invariant-loop decreases-loop → tie.Start invariant-loop decreases-loop
+abbrev entry : tie.Else-not-within invariant-loop-k decreases-loop-k → tie.Start invariant-loop-k decreases-loop-k
 entry c = (head c).before.before
 
-inside : (c : tie.Else1 invariant-loop decreases-loop) → let a = (entry c).args in within (get_or a.plan.now (head c).loop.k 0) (a.n * a.n) ≡ true
-inside c = sym c.before.within.ensures ∙ not-false _ c.if1.false
+inside : (c : tie.Else-not-within invariant-loop-k decreases-loop-k) → let a = (entry c).args in within (get_or a.plan.now (head c).loop.k 0) (a.n * a.n) ≡ true
+inside c = sym c.within.ensures ∙ not-false _ c.if-not-within.false
 
-mul-top : tie.Need-overflow-mul-top invariant-loop decreases-loop
-mul-top c = let n = c.before.requires in omega (arith, mul-le-mul {n₂ = 600} {m₂ = 600} n n)
+overflow_mul-top : tie.Need-overflow_mul-top invariant-loop-k decreases-loop-k
+overflow_mul-top c = let n = c.requires in omega (arith, mul-le-mul {n₂ = 600} {m₂ = 600} n n)
 
-loop-holds : tie.Need-loop-init invariant-loop decreases-loop
+loop-holds : tie.Need-loop-k-init invariant-loop-k decreases-loop-k
 loop-holds c = (omega arith, refl)
 
-mul-x : tie.Need-overflow-mul-x invariant-loop decreases-loop
-mul-x c = omega arith
+offset_bounds-plan-k : tie.Need-offset_bounds-plan-k invariant-loop-k decreases-loop-k
+offset_bounds-plan-k c = omega arith
 
-shared-slice-read-x : tie.Need-shared-slice-read-x invariant-loop decreases-loop
-shared-slice-read-x c = omega arith
+bounds-plan-k : tie.Need-bounds-plan-k invariant-loop-k decreases-loop-k
+bounds-plan-k c = omega arith
 
-add-position : tie.Need-overflow-add-position invariant-loop decreases-loop
-add-position c = omega arith
+overflow_add-position : tie.Need-overflow_add-position invariant-loop-k decreases-loop-k
+overflow_add-position c = omega arith
 
-within-requires : tie.Need-within-requires invariant-loop decreases-loop
+within-requires : tie.Need-within-requires invariant-loop-k decreases-loop-k
 within-requires c κs = search rules
 
-returns : tie.Need-returns invariant-loop decreases-loop
-returns c =
-    let l = c.before.before.before.before.loop in
-    let out = sym c.before.within.ensures ∙ not-true _ c.if1.true in
-    ap (bad 3) (omega arith) ∙ sym (l.invariant.1 ∙ judged-outside _ _ _ _ c.before.before.before.loop-test.true out)
+returns-then-not-within : tie.Need-returns-then-not-within invariant-loop-k decreases-loop-k
+returns-then-not-within c =
+    let l = c.loop-k in
+    let out = sym c.within.ensures ∙ not-true _ c.if-not-within.true in
+    ap (bad 3) (omega arith) ∙ sym (l.invariant.1 ∙ judged-outside _ _ _ _ c.loop-k-test.true out)
 
-returns-2 : tie.Need-returns-2 invariant-loop decreases-loop
-returns-2 c =
+returns-then-x-before : tie.Need-returns-then-x-before invariant-loop-k decreases-loop-k
+returns-then-x-before c =
     let e = c.before in
     let l = (head e).loop in
-    let test = e.before.before.before.loop-test.true in
+    let test = e.loop-k-test.true in
     ap (bad 4) (omega arith)
-    ∙ sym (l.inv.1 ∙ judged_fallen _ l.before l.k (entry e).args.plan.now test (inside e) (omega (arith, c.if2.true)))
+    ∙ sym (l.inv.1 ∙ judged_fallen _ l.before l.k (entry e).args.plan.now test (inside e) (omega (arith, c.if-x-before.true)))
 
-add-k : tie.Need-overflow-add-k invariant-loop decreases-loop
-add-k c = omega arith
+overflow_add-k : tie.Need-overflow_add-k invariant-loop-k decreases-loop-k
+overflow_add-k c = omega arith
 
-loop-less : tie.Need-loop-smaller invariant-loop decreases-loop
+loop-less : tie.Need-loop-k-smaller invariant-loop-k decreases-loop-k
 loop-less c = omega arith
 
-loop-again : tie.Need-loop-preserved invariant-loop decreases-loop
+loop-again : tie.Need-loop-k-preserved invariant-loop-k decreases-loop-k
 loop-again c =
     let e = c.before in
     let l = (head e).loop in
-    let test = e.before.before.before.loop-test.true in
-    let onward = judged-onward _ l.before l.k (entry e).args.plan.now test (inside e) (omega (arith, c.if2.false)) in
+    let test = e.loop-k-test.true in
+    let onward = judged-onward _ l.before l.k (entry e).args.plan.now test (inside e) (omega (arith, c.if-x-before.false)) in
     (omega arith, rw add-one (l.inv.1 ∙ onward))
 
-returns-3 : tie.Need-returns-3 invariant-loop decreases-loop
-returns-3 c = sym (c.before.loop.invariant.1 ∙ judged-end _ _ _ _ (omega arith))
+returns-3 : tie.Need-returns invariant-loop-k decreases-loop-k
+returns-3 c = sym (c.loop-k.invariant.1 ∙ judged-end _ _ _ _ (omega arith))
 
 pub judge_spec : {M : Type 1} → statement M
 judge_spec =
     tie.close
     (tie.spec
-    invariant-loop
-    decreases-loop
-    mul-top
+    invariant-loop-k
+    decreases-loop-k
+    overflow_mul-top
     loop-holds
-    mul-x
-    shared-slice-read-x
-    add-position
+    offset_bounds-plan-k
+    bounds-plan-k
+    overflow_add-position
     within-requires
-    returns
-    returns-2
-    add-k
+    returns-then-not-within
+    returns-then-x-before
+    overflow_add-k
     loop-less
     loop-again
     returns-3)

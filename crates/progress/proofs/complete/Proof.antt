@@ -10,38 +10,38 @@ use borrow.Author.Rules.{rules}
 use Rattle.progress.proofs.complete.Statement.{statement}
 use Rattle.progress.proofs.complete.Tie as tie
 
-open-number-requires : tie.Need-open-number-requires
-open-number-requires c κs = search rules
+open_number-open-requires : tie.Need-open_number-open-requires
+open_number-open-requires c κs = search rules
 
-idle : (c : tie.Then1) → is_idle (progress_of c.before.before.args.g).target ≡ true
+idle : (c : tie.Then-open-eq0) → is_idle (progress_of c.args.g).target ≡ true
 idle c =
-    let g = c.before.before.args.g in
-    sym (idle-number g.target g.number) ∙ ap (λ m. eqb m 0) (sym c.before.open-number.ensures) ∙ eq-eqb _ _ c.if1.true
+    let g = c.args.g in
+    sym (idle-number g.target g.number) ∙ ap (λ m. eqb m 0) (sym c.open_number-open.ensures) ∙ eq-eqb _ _ c.if-open-eq0.true
 
-length-of-y-requires : tie.Need-length-of-y-requires
-length-of-y-requires c κs = search rules
+length_of_y-requires : tie.Need-length_of_y-requires
+length_of_y-requires c κs = search rules
 
-returns : tie.Need-returns
+returns-then-g-length_of_y : tie.Need-returns-then-g-length_of_y
 unfolding complete
-returns c =
+returns-then-g-length_of_y c =
     let y = c.before.before.before in
-    rw (idle y.before.before.before, eq-eqb _ _ y.before.if2.true, ← y.length-of-y.ensures, eq-eqb _ _ c.before.if3.true)
+    rw (idle y.before.before.before, eq-eqb _ _ y.if-g-slots.true, ← y.length_of_y.ensures, eq-eqb _ _ c.if-g-length_of_y.true)
 
-returns-2 : tie.Need-returns-2
+returns-else-g-length_of_y : tie.Need-returns-else-g-length_of_y
 unfolding complete
-returns-2 c =
+returns-else-g-length_of_y c =
     let y = c.before.before in
-    rw (idle y.before.before.before, eq-eqb _ _ y.before.if2.true, ← y.length-of-y.ensures, ne_eqb _ _ c.if3.false)
+    rw (idle y.before.before.before, eq-eqb _ _ y.if-g-slots.true, ← y.length_of_y.ensures, ne_eqb _ _ c.if-g-length_of_y.false)
 
-returns-3 : tie.Need-returns-3
+returns-else-g-slots : tie.Need-returns-else-g-slots
 unfolding complete
-returns-3 c = rw (idle c.before.before, ne_eqb _ _ c.if2.false)
+returns-else-g-slots c = rw (idle c.before.before, ne_eqb _ _ c.if-g-slots.false)
 
-returns-4 : tie.Need-returns-4
+returns-else-open-eq0 : tie.Need-returns-else-open-eq0
 unfolding complete
-returns-4 c =
-    let g = c.before.before.args.g in
-    rw (← idle-number g.target g.number, ← c.before.open-number.ensures, ne_eqb _ _ c.if1.false)
+returns-else-open-eq0 c =
+    let g = c.args.g in
+    rw (← idle-number g.target g.number, ← c.open_number-open.ensures, ne_eqb _ _ c.if-open-eq0.false)
 
 pub complete_spec : {M : Type 1} → statement M
-complete_spec = tie.close (tie.spec open-number-requires length-of-y-requires returns returns-2 returns-3 returns-4)
+complete_spec = tie.close (tie.spec open_number-open-requires length_of_y-requires returns-then-g-length_of_y returns-else-g-length_of_y returns-else-g-slots returns-else-open-eq0)

@@ -4,27 +4,27 @@ use Rattle.progress.specs.Steps.{first_of}
 use Rattle.progress.proofs.first_of.Statement.{statement}
 use Rattle.progress.proofs.first_of.Tie as tie
 
-returns : tie.Need-returns
+returns-then-not-formed : tie.Need-returns-then-not-formed
 unfolding first_of
-returns c = rw (not-true c.before.args.formed c.if1.true)
+returns-then-not-formed c = rw (not-true c.args.formed c.if-not-formed.true)
 
-returns-2 : tie.Need-returns-2
+returns-then-not-ordered : tie.Need-returns-then-not-ordered
 unfolding first_of
-returns-2 c =
-    let a = c.before.before.args in
-    rw (not-false a.formed c.before.if1.false, not-true a.ordered c.if2.true)
+returns-then-not-ordered c =
+    let a = c.args in
+    rw (not-false a.formed c.if-not-formed.false, not-true a.ordered c.if-not-ordered.true)
 
-returns-3 : tie.Need-returns-3
+returns-then-not-turned : tie.Need-returns-then-not-turned
 unfolding first_of
-returns-3 c =
-    let a = c.before.before.before.args in
-    rw (not-false a.formed c.before.before.if1.false, not-false a.ordered c.before.if2.false, not-true a.turned c.if3.true)
+returns-then-not-turned c =
+    let a = c.args in
+    rw (not-false a.formed c.if-not-formed.false, not-false a.ordered c.if-not-ordered.false, not-true a.turned c.if-not-turned.true)
 
-returns-4 : tie.Need-returns-4
+returns-4 : tie.Need-returns
 unfolding first_of
 returns-4 c =
-    let a = c.before.before.before.args in
-    rw (not-false a.formed c.before.before.if1.false, not-false a.ordered c.before.if2.false, not-false a.turned c.if3.false)
+    let a = c.args in
+    rw (not-false a.formed c.if-not-formed.false, not-false a.ordered c.if-not-ordered.false, not-false a.turned c.if-not-turned.false)
 
 pub first_of_spec : {M : Type 1} → statement M
-first_of_spec = tie.close (tie.spec returns returns-2 returns-3 returns-4)
+first_of_spec = tie.close (tie.spec returns-then-not-formed returns-then-not-ordered returns-then-not-turned returns-4)

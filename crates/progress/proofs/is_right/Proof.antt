@@ -13,147 +13,147 @@ use Rattle.progress.proofs.Right.{number-few, is-idle, is-busy, right_arm, busy_
 use Rattle.progress.proofs.is_right.Statement.{statement}
 use Rattle.progress.proofs.is_right.Tie as tie
 
-judge-row-requires : tie.Need-judge-row-requires
-judge-row-requires c κs = (c.if1.true, c.before.before.requires)
+judge_row-requires : tie.Need-judge_row-requires
+judge_row-requires c κs = (c.if-h-eq0.true, c.requires)
 
-returns : tie.Need-returns
-returns c = ap (λ r. eqb r 0) c.judge-row.ensures
+returns-then-h-eq0 : tie.Need-returns-then-h-eq0
+returns-then-h-eq0 c = ap (λ r. eqb r 0) c.judge_row.ensures
 
 -- s is above 0
-abbrev entry : tie.After-open-number → tie.Start
+abbrev entry : tie.After-open_number-open → tie.Start
 entry n = n.before.before.before
 
-some : (n : tie.After-open-number) → 0 < (entry n).args.h.slots
-some n = omega (arith, n.before.if1.false)
+some : (n : tie.After-open_number-open) → 0 < (entry n).args.h.slots
+some n = omega (arith, n.if-h-eq0.false)
 
-open-number-requires : tie.Need-open-number-requires
-open-number-requires c κs = search rules
+open_number-open-requires : tie.Need-open_number-open-requires
+open_number-open-requires c κs = search rules
 
-opens-rightly-requires : tie.Need-opens-rightly-requires
-opens-rightly-requires c κs =
+opens_rightly-requires : tie.Need-opens_rightly-requires
+opens_rightly-requires c κs =
     let n = c.before in
     let g = (entry n).args.g in
-    (some n, is-idle g.target g.number (sym n.open-number.ensures ∙ c.if2.true), (entry n).requires)
+    (some n, is-idle g.target g.number (sym n.open_number-open.ensures ∙ c.if-open-eq0.true), (entry n).requires)
 
-returns-2 : tie.Need-returns-2
-returns-2 c = c.opens-rightly.ensures
+returns-then-open-eq0 : tie.Need-returns-then-open-eq0
+returns-then-open-eq0 c = c.opens_rightly.ensures
 
-add-if3 : tie.Need-overflow-add-if3
-add-if3 c = let n = c.before in omega (arith, n.open-number.ensures, number-few (entry n).args.g.target)
+overflow_add-open : tie.Need-overflow_add-open
+overflow_add-open c = let n = c.before in omega (arith, n.open_number-open.ensures, number-few (entry n).args.g.target)
 
 readable-requires : tie.Need-readable-requires
 readable-requires c κs =
     let n = c.before.before in
-    omega (arith, c.if3.true, c.before.if2.false, n.open-number.ensures, number-few (entry n).args.g.target)
+    omega (arith, c.if-kind-open.true, c.if-open-eq0.false, n.open_number-open.ensures, number-few (entry n).args.g.target)
 
-returns-3 : tie.Need-returns-3
+returns-then-kind-open : tie.Need-returns-then-kind-open
 unfolding formed
-returns-3 c =
+returns-then-kind-open c =
     let n = c.before.before.before in
     let a = (entry n).args in
     let few = number-few a.g.target in
-    let is = c.before.if3.true in
-    let busy = c.before.before.if2.false in
-    let now = n.open-number.ensures in
+    let is = c.if-kind-open.true in
+    let busy = c.if-open-eq0.false in
+    let now = n.open_number-open.ensures in
     let sub = subtracting a.kind (omega (arith, now, few, is, busy)) (omega (arith, now, few, is, busy)) in
     right_arm a.h a.g a.kind a.p a.q (some n) sub.kind_is refl
     (sym (eq-eqb (open_number a.g.target) _ (omega (arith, now, is, sub.number_is))) ∙ subtracts-order sub.table a.g.target a.g.number)
     (c.readable.ensures ∙ ap (λ k. in_turn a.h.order a.h.coefficients a.h.slots k a.p a.q (progress_of a.g)) sub.kind_is.is)
 
 -- something is open
-open-now : (c : tie.Else2) → true ≡ not (is_idle (progress_of (entry c.before).args.g).target)
+open-now : (c : tie.Else-open-eq0) → true ≡ not (is_idle (progress_of (entry c.before).args.g).target)
 open-now c =
     let g = (entry c.before).args.g in
-    sym (ap not (ne_eqb _ 0 c.if2.false)) ∙ ap (λ m. not (eqb m 0)) c.before.open-number.ensures
+    sym (ap not (ne_eqb _ 0 c.if-open-eq0.false)) ∙ ap (λ m. not (eqb m 0)) c.open_number-open.ensures
     ∙ ap not (idle-number g.target g.number)
 
 within-requires : tie.Need-within-requires
 within-requires c κs = search rules
 
-returns-4 : tie.Need-returns-4
+returns-then-q-eq0 : tie.Need-returns-then-q-eq0
 unfolding kind_of formed in_turn
-returns-4 c =
+returns-then-q-eq0 c =
     let e = c.before.before.before.before in
     let a = (entry e.before).args in
-    right_arm a.h a.g a.kind a.p a.q (some e.before) (known c.before.before.if4.true refl) (sym (eq-eqb _ 0 c.before.if5.true))
+    right_arm a.h a.g a.kind a.p a.q (some e.before) (known c.if-kind-eq7.true refl) (sym (eq-eqb _ 0 c.if-q-eq0.true))
     (open-now e ∙ divides-order _) c.within.ensures
 
-returns-5 : tie.Need-returns-5
+returns-else-q-eq0 : tie.Need-returns-else-q-eq0
 unfolding kind_of formed
-returns-5 c =
+returns-else-q-eq0 c =
     let e = c.before.before.before in
     let a = (entry e.before).args in
-    let other = ne_eqb a.q 0 c.if5.false in
+    let other = ne_eqb a.q 0 c.if-q-eq0.false in
     other
-    ∙ right_arm a.h a.g a.kind a.p a.q (some e.before) (known c.before.if4.true refl) (sym other) (open-now e ∙ divides-order _) refl
+    ∙ right_arm a.h a.g a.kind a.p a.q (some e.before) (known c.if-kind-eq7.true refl) (sym other) (open-now e ∙ divides-order _) refl
 
 unused-requires : tie.Need-unused-requires
 unused-requires c κs = search rules
 
-returns-6 : tie.Need-returns-6
+returns-then-kind-eq8 : tie.Need-returns-then-kind-eq8
 unfolding kind_of formed in_turn
-returns-6 c =
+returns-then-kind-eq8 c =
     let e = c.before.before.before.before in
     let a = (entry e.before).args in
-    and_comm true _ ∙ right_arm a.h a.g a.kind a.p a.q (some e.before) (known c.before.if6.true refl) c.unused.ensures
+    and_comm true _ ∙ right_arm a.h a.g a.kind a.p a.q (some e.before) (known c.if-kind-eq8.true refl) c.unused.ensures
     (open-now e ∙ closes-order _) refl
 
-unused-requires-2 : tie.Need-unused-requires-2
-unused-requires-2 c κs = search rules
+unused-requires-then-open-eq1 : tie.Need-unused-requires-then-open-eq1
+unused-requires-then-open-eq1 c κs = search rules
 
 -- at kind 9: where it is known what is open
-abbrev numbered : tie.Then7 → tie.After-open-number
+abbrev numbered : tie.Then-kind-eq9 → tie.After-open_number-open
 numbered c = c.before.before.before.before.before
 
 -- 11 of kind 9
-pivot_now : (n : tie.After-open-number) → eqb n.open-number.result 1 ≡ in_order closes_pivot (progress_of (entry n).args.g).target
-pivot_now n = ap (λ m. eqb m 1) n.open-number.ensures ∙ pivot-order (entry n).args.g.target (entry n).args.g.number
+pivot_now : (n : tie.After-open_number-open) → eqb n.open_number-open.result 1 ≡ in_order closes_pivot (progress_of (entry n).args.g).target
+pivot_now n = ap (λ m. eqb m 1) n.open_number-open.ensures ∙ pivot-order (entry n).args.g.target (entry n).args.g.number
 
-returns-7 : tie.Need-returns-7
+returns-then-open-eq1 : tie.Need-returns-then-open-eq1
 unfolding kind_of formed in_turn
-returns-7 c =
+returns-then-open-eq1 c =
     let n = numbered c.before.before in
     let a = (entry n).args in
-    and_comm true _ ∙ right_arm a.h a.g a.kind a.p a.q (some n) (known c.before.before.if7.true refl) c.unused2.ensures
-    (sym (eq-eqb _ 1 c.before.if8.true) ∙ pivot_now n) refl
+    and_comm true _ ∙ right_arm a.h a.g a.kind a.p a.q (some n) (known c.if-kind-eq9.true refl) c.unused-then-open-eq1.ensures
+    (sym (eq-eqb _ 1 c.if-open-eq1.true) ∙ pivot_now n) refl
 
-returns-8 : tie.Need-returns-8
+returns-else-open-eq1 : tie.Need-returns-else-open-eq1
 unfolding kind_of formed in_turn
-returns-8 c =
+returns-else-open-eq1 c =
     let n = numbered c.before in
     let a = (entry n).args in
-    let other = ne_eqb _ 1 c.if8.false in
+    let other = ne_eqb _ 1 c.if-open-eq1.false in
     other ∙ sym (and-false (formed closes_pivot a.p a.q))
-    ∙ right_arm a.h a.g a.kind a.p a.q (some n) (known c.before.if7.true refl) refl (sym other ∙ pivot_now n) refl
+    ∙ right_arm a.h a.g a.kind a.p a.q (some n) (known c.if-kind-eq9.true refl) refl (sym other ∙ pivot_now n) refl
 
-returns-9 : tie.Need-returns-9
-returns-9 c =
+returns-else-kind-eq9 : tie.Need-returns-else-kind-eq9
+returns-else-kind-eq9 c =
     let e = c.before.before.before.before in
     let n = e.before in
     let a = (entry n).args in
-    let b = is-busy a.g.target a.g.number (λ idle. e.if2.false (n.open-number.ensures ∙ idle)) in
-    ne_eqb _ 9 c.if7.false
-    ∙ busy_wrong a.h a.g a.kind a.p a.q (some n) b.table b.is c.before.before.if4.false c.before.if6.false c.if7.false
-    (λ same. c.before.before.before.if3.false (same ∙ ap (λ m. m + 3) (sym (n.open-number.ensures ∙ b.number_is))))
+    let b = is-busy a.g.target a.g.number (λ idle. e.if-open-eq0.false (n.open_number-open.ensures ∙ idle)) in
+    ne_eqb _ 9 c.if-kind-eq9.false
+    ∙ busy_wrong a.h a.g a.kind a.p a.q (some n) b.table b.is c.if-kind-eq7.false c.if-kind-eq8.false c.if-kind-eq9.false
+    (λ same. c.if-kind-open.false (same ∙ ap (λ m. m + 3) (sym (n.open_number-open.ensures ∙ b.number_is))))
 
 pub is_right_spec : {M : Type 1} → statement M
 is_right_spec =
     tie.close
     (tie.spec
-    judge-row-requires
-    returns
-    open-number-requires
-    opens-rightly-requires
-    returns-2
-    add-if3
+    judge_row-requires
+    returns-then-h-eq0
+    open_number-open-requires
+    opens_rightly-requires
+    returns-then-open-eq0
+    overflow_add-open
     readable-requires
-    returns-3
+    returns-then-kind-open
     within-requires
-    returns-4
-    returns-5
+    returns-then-q-eq0
+    returns-else-q-eq0
     unused-requires
-    returns-6
-    unused-requires-2
-    returns-7
-    returns-8
-    returns-9)
+    returns-then-kind-eq8
+    unused-requires-then-open-eq1
+    returns-then-open-eq1
+    returns-else-open-eq1
+    returns-else-kind-eq9)

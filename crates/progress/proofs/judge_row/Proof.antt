@@ -10,74 +10,74 @@ use borrow.Author.Rules.{rules}
 use Rattle.progress.proofs.judge_row.Statement.{statement}
 use Rattle.progress.proofs.judge_row.Tie as tie
 
-open-number-requires : tie.Need-open-number-requires
-open-number-requires c κs = search rules
+open_number-open-requires : tie.Need-open_number-open-requires
+open_number-open-requires c κs = search rules
 
 unused-requires : tie.Need-unused-requires
 unused-requires c κs = search rules
 
-first-of-requires : tie.Need-first-of-requires
-first-of-requires c κs = search rules
+first_of-requires : tie.Need-first_of-requires
+first_of-requires c κs = search rules
 
-turn-of-row-requires : tie.Need-turn-of-row-requires
-turn-of-row-requires c κs = search rules
+turn_of_row-requires : tie.Need-turn_of_row-requires
+turn_of_row-requires c κs = search rules
 
-first-of-requires-2 : tie.Need-first-of-requires-2
-first-of-requires-2 c κs = search rules
+first_of-requires-in-10 : tie.Need-first_of-requires-in-10
+first_of-requires-in-10 c κs = search rules
 
-readable-in-row-requires : tie.Need-readable-in-row-requires
-readable-in-row-requires c κs = search rules
+readable_in_row-requires : tie.Need-readable_in_row-requires
+readable_in_row-requires c κs = search rules
 
-first-of-requires-3 : tie.Need-first-of-requires-3
-first-of-requires-3 c κs = search rules
+first_of-requires-in-11 : tie.Need-first_of-requires-in-11
+first_of-requires-in-11 c κs = search rules
 
 within-requires : tie.Need-within-requires
 within-requires c κs = search rules
 
-first-of-requires-4 : tie.Need-first-of-requires-4
-first-of-requires-4 c κs = search rules
+first_of-requires-in-12 : tie.Need-first_of-requires-in-12
+first_of-requires-in-12 c κs = search rules
 
 -- 11's test whether anything is open
-idle_now : (c : tie.After-open-number) → eqb c.open-number.result 0 ≡ is_idle (progress_of c.before.args.g).target
-idle_now c = ap (λ m. eqb m 0) c.open-number.ensures ∙ idle-number c.before.args.g.target c.before.args.g.number
+idle_now : (c : tie.After-open_number-open) → eqb c.open_number-open.result 0 ≡ is_idle (progress_of c.args.g).target
+idle_now c = ap (λ m. eqb m 0) c.open_number-open.ensures ∙ idle-number c.args.g.target c.args.g.number
 
-returns : tie.Need-returns
+returns-in-8 : tie.Need-returns-in-8
 unfolding kind_of belongs formed in_row
-returns c =
+returns-in-8 c =
     let n = c.before.before.before in
-    let a = n.before.args in
-    c.first_of.ensures ∙ row_arm a.h a.g a.kind a.p a.q n.before.requires.0 (known c.before.before.match.keys1 refl)
-    c.before.unused.ensures (ap not (idle_now n) ∙ closes-order _) refl
+    let a = n.args in
+    c.first_of.ensures ∙ row_arm a.h a.g a.kind a.p a.q n.requires.0 (known c.in-8.keys1 refl)
+    c.unused.ensures (ap not (idle_now n) ∙ closes-order _) refl
 
-returns-2 : tie.Need-returns-2
+returns-in-10 : tie.Need-returns-in-10
 unfolding kind_of belongs formed in_row
-returns-2 c =
+returns-in-10 c =
     let n = c.before.before.before in
-    let a = n.before.args in
-    c.first-of2.ensures ∙ row_arm a.h a.g a.kind a.p a.q n.before.requires.0 (known c.before.before.match.keys2 refl)
-    refl (idle_now n ∙ opens-order X _) c.before.turn-of-row.ensures
+    let a = n.args in
+    c.first_of-in-10.ensures ∙ row_arm a.h a.g a.kind a.p a.q n.requires.0 (known c.in-10.keys2 refl)
+    refl (idle_now n ∙ opens-order X _) c.turn_of_row.ensures
 
-returns-3 : tie.Need-returns-3
+returns-in-11 : tie.Need-returns-in-11
 unfolding kind_of belongs formed in_row
-returns-3 c =
+returns-in-11 c =
     let n = c.before.before.before in
-    let a = n.before.args in
-    c.first-of3.ensures ∙ row_arm a.h a.g a.kind a.p a.q n.before.requires.0 (known c.before.before.match.keys3 refl)
-    refl (ap (λ m. eqb m 3) n.open-number.ensures ∙ subtracts-order X a.g.target a.g.number) c.before.readable-in-row.ensures
+    let a = n.args in
+    c.first_of-in-11.ensures ∙ row_arm a.h a.g a.kind a.p a.q n.requires.0 (known c.in-11.keys3 refl)
+    refl (ap (λ m. eqb m 3) n.open_number-open.ensures ∙ subtracts-order X a.g.target a.g.number) c.readable_in_row.ensures
 
-returns-4 : tie.Need-returns-4
+returns-in-12 : tie.Need-returns-in-12
 unfolding kind_of belongs formed in_row
-returns-4 c =
+returns-in-12 c =
     let n = c.before.before.before in
-    let a = n.before.args in
-    c.first-of4.ensures ∙ row_arm a.h a.g a.kind a.p a.q n.before.requires.0 (known c.before.before.match.keys4 refl)
-    refl (ap not (idle_now n) ∙ divides-order _) c.before.within.ensures
+    let a = n.args in
+    c.first_of-in-12.ensures ∙ row_arm a.h a.g a.kind a.p a.q n.requires.0 (known c.in-12.keys4 refl)
+    refl (ap not (idle_now n) ∙ divides-order _) c.within.ensures
 
-returns-5 : tie.Need-returns-5
-returns-5 c =
+returns-in_default : tie.Need-returns-in_default
+returns-in_default c =
     let s = c.before.before in
     let a = s.args in
-    let other = c.match.rest in
+    let other = c.in_default.rest in
     no_kind a.h a.g a.kind a.p a.q
     (not_in_row a.h.slots a.kind s.requires.0 other.0.0.0.1 other.0.0.1 other.0.1 other.1)
 
@@ -85,17 +85,17 @@ pub judge_row_spec : {M : Type 1} → statement M
 judge_row_spec =
     tie.close
     (tie.spec
-    open-number-requires
+    open_number-open-requires
     unused-requires
-    first-of-requires
-    turn-of-row-requires
-    first-of-requires-2
-    readable-in-row-requires
-    first-of-requires-3
+    first_of-requires
+    turn_of_row-requires
+    first_of-requires-in-10
+    readable_in_row-requires
+    first_of-requires-in-11
     within-requires
-    first-of-requires-4
-    returns
-    returns-2
-    returns-3
-    returns-4
-    returns-5)
+    first_of-requires-in-12
+    returns-in-8
+    returns-in-10
+    returns-in-11
+    returns-in-12
+    returns-in_default)

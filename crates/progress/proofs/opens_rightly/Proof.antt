@@ -11,74 +11,74 @@ use Rattle.progress.proofs.Right.{opens-idle, right_arm, idle_wrong}
 use Rattle.progress.proofs.opens_rightly.Statement.{statement}
 use Rattle.progress.proofs.opens_rightly.Tie as tie
 
-turn-of-c-requires : tie.Need-turn-of-c-requires
-turn-of-c-requires c κs = search rules
+turn_of_c-requires : tie.Need-turn_of_c-requires
+turn_of_c-requires c κs = search rules
 
 -- 11 of kinds 1 to 3
 ordered : (s : tie.Start) (t : Table) → true ≡ in_order (opens t) (progress_of s.args.g).target
 ordered s t = opens-idle t _ s.requires.1
 
-returns : tie.Need-returns
+returns-then-kind-eq1 : tie.Need-returns-then-kind-eq1
 unfolding kind_of formed
-returns c =
+returns-then-kind-eq1 c =
     let s = c.before.before in
     let a = s.args in
-    right_arm a.h a.g a.kind a.p a.q s.requires.0 (known c.before.if1.true refl) refl (ordered s C) c.turn-of-c.ensures
+    right_arm a.h a.g a.kind a.p a.q s.requires.0 (known c.if-kind-eq1.true refl) refl (ordered s C) c.turn_of_c.ensures
 
-turn-of-y-requires : tie.Need-turn-of-y-requires
-turn-of-y-requires c κs = search rules
+turn_of_y-requires : tie.Need-turn_of_y-requires
+turn_of_y-requires c κs = search rules
 
-returns-2 : tie.Need-returns-2
+returns-then-q-eq0 : tie.Need-returns-then-q-eq0
 unfolding kind_of formed in_turn
-returns-2 c =
+returns-then-q-eq0 c =
     let s = c.before.before.before.before in
     let a = s.args in
-    right_arm a.h a.g a.kind a.p a.q s.requires.0 (known c.before.before.if2.true refl) (sym (eq-eqb _ 0 c.before.if3.true))
-    (ordered s Y) c.turn-of-y.ensures
+    right_arm a.h a.g a.kind a.p a.q s.requires.0 (known c.if-kind-eq2.true refl) (sym (eq-eqb _ 0 c.if-q-eq0.true))
+    (ordered s Y) c.turn_of_y.ensures
 
-returns-3 : tie.Need-returns-3
+returns-else-q-eq0 : tie.Need-returns-else-q-eq0
 unfolding kind_of formed
-returns-3 c =
+returns-else-q-eq0 c =
     let s = c.before.before.before in
     let a = s.args in
-    let other = ne_eqb a.q 0 c.if3.false in
-    other ∙ right_arm a.h a.g a.kind a.p a.q s.requires.0 (known c.before.if2.true refl) (sym other) (ordered s Y) refl
+    let other = ne_eqb a.q 0 c.if-q-eq0.false in
+    other ∙ right_arm a.h a.g a.kind a.p a.q s.requires.0 (known c.if-kind-eq2.true refl) (sym other) (ordered s Y) refl
 
-turn-of-x-requires : tie.Need-turn-of-x-requires
-turn-of-x-requires c κs = search rules
+turn_of_x-requires : tie.Need-turn_of_x-requires
+turn_of_x-requires c κs = search rules
 
-returns-4 : tie.Need-returns-4
+returns-then-q-eq0-2 : tie.Need-returns-then-q-eq0-2
 unfolding kind_of formed in_turn
-returns-4 c =
+returns-then-q-eq0-2 c =
     let s = c.before.before.before.before.before in
     let a = s.args in
-    right_arm a.h a.g a.kind a.p a.q s.requires.0 (known c.before.before.if4.true refl) (sym (eq-eqb _ 0 c.before.if5.true))
-    (ordered s X) c.turn-of-x.ensures
+    right_arm a.h a.g a.kind a.p a.q s.requires.0 (known c.if-kind-eq3.true refl) (sym (eq-eqb _ 0 c.if-q-eq0-2.true))
+    (ordered s X) c.turn_of_x.ensures
 
-returns-5 : tie.Need-returns-5
+returns-else-q-eq0-2 : tie.Need-returns-else-q-eq0-2
 unfolding kind_of formed
-returns-5 c =
+returns-else-q-eq0-2 c =
     let s = c.before.before.before.before in
     let a = s.args in
-    let other = ne_eqb a.q 0 c.if5.false in
-    other ∙ right_arm a.h a.g a.kind a.p a.q s.requires.0 (known c.before.if4.true refl) (sym other) (ordered s X) refl
+    let other = ne_eqb a.q 0 c.if-q-eq0-2.false in
+    other ∙ right_arm a.h a.g a.kind a.p a.q s.requires.0 (known c.if-kind-eq3.true refl) (sym other) (ordered s X) refl
 
-returns-6 : tie.Need-returns-6
+returns-6 : tie.Need-returns
 returns-6 c =
     let s = c.before.before.before in
     let a = s.args in
-    idle_wrong a.h a.g a.kind a.p a.q s.requires.0 s.requires.1 c.before.before.if1.false c.before.if2.false c.if4.false
+    idle_wrong a.h a.g a.kind a.p a.q s.requires.0 s.requires.1 c.if-kind-eq1.false c.if-kind-eq2.false c.if-kind-eq3.false
 
 pub opens_rightly_spec : {M : Type 1} → statement M
 opens_rightly_spec =
     tie.close
     (tie.spec
-    turn-of-c-requires
-    returns
-    turn-of-y-requires
-    returns-2
-    returns-3
-    turn-of-x-requires
-    returns-4
-    returns-5
+    turn_of_c-requires
+    returns-then-kind-eq1
+    turn_of_y-requires
+    returns-then-q-eq0
+    returns-else-q-eq0
+    turn_of_x-requires
+    returns-then-q-eq0-2
+    returns-else-q-eq0-2
     returns-6)

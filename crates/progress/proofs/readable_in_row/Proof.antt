@@ -7,14 +7,14 @@ use Rattle.progress.proofs.readable_in_row.Tie as tie
 within-requires : tie.Need-within-requires
 within-requires c κs = search rules
 
-within-requires-2 : tie.Need-within-requires-2
-within-requires-2 c κs = search rules
+within-requires-then-within : tie.Need-within-requires-then-within
+within-requires-then-within c κs = search rules
 
-returns : tie.Need-returns
-returns c = rw (sym c.before.before.within.ensures ∙ c.before.if1.true) c.within2.ensures
+returns-then-within : tie.Need-returns-then-within
+returns-then-within c = rw (sym c.within.ensures ∙ c.if-within.true) c.within-then-within.ensures
 
-returns-2 : tie.Need-returns-2
-returns-2 c = rw (sym c.before.within.ensures ∙ c.if1.false) c.if1.false
+returns-else-within : tie.Need-returns-else-within
+returns-else-within c = rw (sym c.within.ensures ∙ c.if-within.false) c.if-within.false
 
 pub readable_in_row_spec : {M : Type 1} → statement M
-readable_in_row_spec = tie.close (tie.spec within-requires within-requires-2 returns returns-2)
+readable_in_row_spec = tie.close (tie.spec within-requires within-requires-then-within returns-then-within returns-else-within)

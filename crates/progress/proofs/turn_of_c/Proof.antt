@@ -11,25 +11,25 @@ use Rattle.progress.proofs.turn_of_c.Tie as tie
 within-requires : tie.Need-within-requires
 within-requires c κs = search rules
 
-sub-result : tie.Need-overflow-sub-result
-sub-result c =
-    let a = c.before.before.before.before.args in
-    (within-range a.q a.h.slots (sym c.before.within.ensures ∙ c.if2.true)).0
+overflow_sub-result : tie.Need-overflow_sub-result
+overflow_sub-result c =
+    let a = c.args in
+    (within-range a.q a.h.slots (sym c.within.ensures ∙ c.if-within.true)).0
 
-returns : tie.Need-returns
+returns-then-within : tie.Need-returns-then-within
 unfolding in_turn
-returns c =
+returns-then-within c =
     let w = c.before.before in
-    let a = w.before.before.before.args in
-    rw (le-leb _ _ w.before.if1.true, sym w.within.ensures ∙ c.before.if2.true) (one-above a.q a.g.c (sub-result c.before))
+    let a = w.args in
+    rw (le-leb _ _ w.if-p-h.true, sym w.within.ensures ∙ c.if-within.true) (one-above a.q a.g.c (overflow_sub-result c.before))
 
-returns-2 : tie.Need-returns-2
+returns-else-within : tie.Need-returns-else-within
 unfolding in_turn
-returns-2 c = c.if2.false ∙ rw (le-leb _ _ c.before.before.if1.true, sym c.before.within.ensures ∙ c.if2.false)
+returns-else-within c = c.if-within.false ∙ rw (le-leb _ _ c.if-p-h.true, sym c.within.ensures ∙ c.if-within.false)
 
-returns-3 : tie.Need-returns-3
+returns-else-p-h : tie.Need-returns-else-p-h
 unfolding in_turn
-returns-3 c = rw (lt-leb _ _ c.if1.false)
+returns-else-p-h c = rw (lt-leb _ _ c.if-p-h.false)
 
 pub turn_of_c_spec : {M : Type 1} → statement M
-turn_of_c_spec = tie.close (tie.spec within-requires sub-result returns returns-2 returns-3)
+turn_of_c_spec = tie.close (tie.spec within-requires overflow_sub-result returns-then-within returns-else-within returns-else-p-h)

@@ -13,20 +13,20 @@ use Rattle.progress.proofs.turn_of_x.Tie as tie
 within-requires : tie.Need-within-requires
 within-requires c κs = search rules
 
-add-result : tie.Need-overflow-add-result
-add-result c =
-    let a = c.before.before.args in
-    omega (arith, within-range a.p a.g.y (sym c.before.within.ensures ∙ c.if1.true))
+overflow_add-result : tie.Need-overflow_add-result
+overflow_add-result c =
+    let a = c.args in
+    omega (arith, within-range a.p a.g.y (sym c.within.ensures ∙ c.if-within.true))
 
-returns : tie.Need-returns
-returns c =
-    let a = c.before.before.args in
-    ap (λ w. w && eqb (a.p + a.g.x) a.h.order) (sym c.if1.true ∙ c.before.within.ensures) ∙ opens-x-turn a.h a.g a.p
+returns-then-within : tie.Need-returns-then-within
+returns-then-within c =
+    let a = c.args in
+    ap (λ w. w && eqb (a.p + a.g.x) a.h.order) (sym c.if-within.true ∙ c.within.ensures) ∙ opens-x-turn a.h a.g a.p
 
-returns-2 : tie.Need-returns-2
-returns-2 c =
-    let a = c.before.before.args in
-    c.if1.false ∙ ap (λ w. w && eqb (a.p + a.g.x) a.h.order) (sym c.if1.false ∙ c.before.within.ensures) ∙ opens-x-turn a.h a.g a.p
+returns-else-within : tie.Need-returns-else-within
+returns-else-within c =
+    let a = c.args in
+    c.if-within.false ∙ ap (λ w. w && eqb (a.p + a.g.x) a.h.order) (sym c.if-within.false ∙ c.within.ensures) ∙ opens-x-turn a.h a.g a.p
 
 pub turn_of_x_spec : {M : Type 1} → statement M
-turn_of_x_spec = tie.close (tie.spec within-requires add-result returns returns-2)
+turn_of_x_spec = tie.close (tie.spec within-requires overflow_add-result returns-then-within returns-else-within)

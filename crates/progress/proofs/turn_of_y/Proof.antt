@@ -7,20 +7,20 @@ use borrow.Author.Rules.{rules}
 use Rattle.progress.proofs.turn_of_y.Statement.{statement}
 use Rattle.progress.proofs.turn_of_y.Tie as tie
 
-add-if1 : tie.Need-overflow-add-if1
-add-if1 c = search rules
+overflow_add-g : tie.Need-overflow_add-g
+overflow_add-g c = search rules
 
-returns : tie.Need-returns
+returns-then-p-g : tie.Need-returns-then-p-g
 unfolding in_turn
-returns c =
-    let a = c.before.before.before.args in
+returns-then-p-g c =
+    let a = c.args in
     rw (eq-eqb a.p (suc a.g.y) (omega arith))
 
-returns-2 : tie.Need-returns-2
+returns-else-p-g : tie.Need-returns-else-p-g
 unfolding in_turn
-returns-2 c =
-    let a = c.before.before.args in
-    rw (ne_eqb a.p (suc a.g.y) (λ e. c.if1.false (omega arith)), ne_eqb _ _ c.if1.false)
+returns-else-p-g c =
+    let a = c.args in
+    rw (ne_eqb a.p (suc a.g.y) (λ e. c.if-p-g.false (omega arith)), ne_eqb _ _ c.if-p-g.false)
 
 pub turn_of_y_spec : {M : Type 1} → statement M
-turn_of_y_spec = tie.close (tie.spec add-if1 returns returns-2)
+turn_of_y_spec = tie.close (tie.spec overflow_add-g returns-then-p-g returns-else-p-g)

@@ -10,22 +10,22 @@ use Rattle.residual.proofs.check.Tie as tie
 check-requires : tie.Need-check-requires
 check-requires c κs = search rules
 
-enum-known-number : tie.Need-enum-known-number
-enum-known-number c = search rules
+enum_known-number : tie.Need-enum_known-number
+enum_known-number c = search rules
 
-enum_told : tie.Need-enum-told
-enum_told c = search rules
+enum_told-1 : tie.Need-enum_told-1
+enum_told-1 c = search rules
 
-check-lent-requires : tie.Need-check-lent-requires
-check-lent-requires c κs = rw (zero-mul _) at (sym c.before.before.check.ensures ∙ ap labels_of c.enum_told.given.1)
+check_lent-requires : tie.Need-check_lent-requires
+check_lent-requires c κs = rw (zero-mul _) at (sym c.check.ensures ∙ ap labels_of c.enum_told-1.given.1)
 
-returns : tie.Need-returns
-returns c = sym (measuring-early _ _ _ _ _ _ _ _ (rw (zero-mul _) at (sym c.before.before.before.check.ensures ∙ ap labels_of c.before.number.given.1)))
+returns-in-Bad : tie.Need-returns-in-Bad
+returns-in-Bad c = sym (measuring-early _ _ _ _ _ _ _ _ (rw (zero-mul _) at (sym c.check.ensures ∙ ap labels_of c.number-1.given.1)))
 
-returns-2 : tie.Need-returns-2
-returns-2 c = search rules
+returns-in-Good : tie.Need-returns-in-Good
+returns-in-Good c = search rules
 
 pub check_spec : {M : Type 1} → statement M
 check_spec =
     tie.close
-    (tie.spec check-requires enum-known-number enum_told check-lent-requires returns returns-2)
+    (tie.spec check-requires enum_known-number enum_told-1 check_lent-requires returns-in-Bad returns-in-Good)

@@ -3,14 +3,14 @@ use borrow.Author.Tests.{eq-eqb, ne_eqb}
 use Rattle.residual.proofs.lengths_fit.Statement.{statement}
 use Rattle.residual.proofs.lengths_fit.Tie as tie
 
-returns : tie.Need-returns
-returns c = rw (eq-eqb _ _ c.before.if1.true, eq-eqb _ _ c.if2.true)
+returns-then-b-n : tie.Need-returns-then-b-n
+returns-then-b-n c = rw (eq-eqb _ _ c.if-a-plan.true, eq-eqb _ _ c.if-b-n.true)
 
-returns-2 : tie.Need-returns-2
-returns-2 c = rw (eq-eqb _ _ c.before.if1.true, ne_eqb _ _ c.if2.false)
+returns-else-b-n : tie.Need-returns-else-b-n
+returns-else-b-n c = rw (eq-eqb _ _ c.if-a-plan.true, ne_eqb _ _ c.if-b-n.false)
 
-returns-3 : tie.Need-returns-3
-returns-3 c = rw (ne_eqb _ _ c.if1.false)
+returns-else-a-plan : tie.Need-returns-else-a-plan
+returns-else-a-plan c = rw (ne_eqb _ _ c.if-a-plan.false)
 
 pub lengths_fit_spec : {M : Type 1} → statement M
-lengths_fit_spec = tie.close (tie.spec returns returns-2 returns-3)
+lengths_fit_spec = tie.close (tie.spec returns-then-b-n returns-else-b-n returns-else-a-plan)

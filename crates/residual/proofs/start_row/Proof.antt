@@ -8,33 +8,33 @@ use Rattle.residual.proofs.start_row.Tie as tie
 clear-requires : tie.Need-clear-requires
 clear-requires c κs = search rules
 
-parts-requires : tie.Need-parts-requires
-parts-requires c κs = search rules
+parts-value-requires : tie.Need-parts-value-requires
+parts-value-requires c κs = search rules
 
-add-change-wide : tie.Need-overflow-add-change-wide
-add-change-wide c = search rules
+overflow_add-value : tie.Need-overflow_add-value
+overflow_add-value c = search rules
 
-change-wide-requires : tie.Need-change-wide-requires
-change-wide-requires c κs = search rules
+change_wide-requires : tie.Need-change_wide-requires
+change_wide-requires c κs = search rules
 
-same_length : tie.Need-same-length
-same_length c = search rules
+shape_of-row : tie.Need-shape_of-row
+shape_of-row c = search rules
 
 returns : tie.Need-returns
 returns c =
     let w = c.before.before in
     let p = w.before.before.before in
     let z = p.before.before.before in
-    value-put _ z.clear.new.0 w.change-wide.new.0 p.parts.ensures refl (rw z.before.before.before.requires.0 at z.clear.ensures)
-    (λ k below. (c.slice-known3.given k).fits) w.change-wide.ensures
+    value-put _ z.clear.new.0 w.change_wide.new.0 p.parts-value.ensures refl (rw z.requires.0 at z.clear.ensures)
+    (λ k below. (c.slice_known-3-1.given k).fits) w.change_wide.ensures
 
-pub start-row_spec : {M : Type 1} → statement M
-start-row_spec =
+pub start_row_spec : {M : Type 1} → statement M
+start_row_spec =
     tie.close
     (tie.spec
     clear-requires
-    parts-requires
-    add-change-wide
-    change-wide-requires
-    same_length
+    parts-value-requires
+    overflow_add-value
+    change_wide-requires
+    shape_of-row
     returns)

@@ -9,85 +9,85 @@ use Rattle.residual.proofs.Labelled.{Started, started_more, started_all, lent_le
 use Rattle.residual.proofs.start_rows.Statement.{statement}
 use Rattle.residual.proofs.start_rows.Tie as tie
 
-abbrev invariant-loop : tie.invariant-loop
-invariant-loop b words₀ r₀ words r = Started b r words × (r ≤ length b)
+abbrev invariant-loop-r : tie.invariant-loop-r
+invariant-loop-r b words₀ r₀ words r = Started b r words × (r ≤ length b)
 
-abbrev decreases-loop : tie.decreases-loop
-decreases-loop b words₀ r₀ words r = length b - r
+abbrev decreases-loop-r : tie.decreases-loop-r
+decreases-loop-r b words₀ r₀ words r = length b - r
 
 -- a row has 66 words
 whole : (r : ℕ) → r * 66 + 66 - r * 66 ≡ 66
 whole r = omega arith
 
-loop-holds : tie.Need-loop-init invariant-loop decreases-loop
-loop-holds c = (record { long = c.before.before.requires.2; each = λ i h. absurd (omega arith) }, omega arith)
+loop-holds : tie.Need-loop-r-init invariant-loop-r decreases-loop-r
+loop-holds c = (record { long = c.requires.2; each = λ i h. absurd (omega arith) }, omega arith)
 
-mul-first : tie.Need-overflow-mul-first invariant-loop decreases-loop
-mul-first c = search rules
+overflow_mul-first : tie.Need-overflow_mul-first invariant-loop-r decreases-loop-r
+overflow_mul-first c = search rules
 
-add-start-row : tie.Need-overflow-add-start-row invariant-loop decreases-loop
-add-start-row c = search rules
+overflow_add-first : tie.Need-overflow_add-first invariant-loop-r decreases-loop-r
+overflow_add-first c = search rules
 
-mul-start-row : tie.Need-overflow-mul-start-row invariant-loop decreases-loop
-mul-start-row c = search rules
+offset_bounds-words-first : tie.Need-offset_bounds-words-first invariant-loop-r decreases-loop-r
+offset_bounds-words-first c = search rules
 
-sub-start-row : tie.Need-overflow-sub-start-row invariant-loop decreases-loop
-sub-start-row c = search rules
+slice_bounds-start_row-count : tie.Need-slice_bounds-start_row-count invariant-loop-r decreases-loop-r
+slice_bounds-start_row-count c = search rules
 
-part-start-row-start : tie.Need-slice-bounds-start-row-start invariant-loop decreases-loop
-part-start-row-start c = search rules
+slice_bounds-start_row-start : tie.Need-slice_bounds-start_row-start invariant-loop-r decreases-loop-r
+slice_bounds-start_row-start c = search rules
 
-part-start-row-end : tie.Need-slice-bounds-start-row-end invariant-loop decreases-loop
-part-start-row-end c = search rules
+slice_bounds-start_row-end : tie.Need-slice_bounds-start_row-end invariant-loop-r decreases-loop-r
+slice_bounds-start_row-end c = search rules
 
-mul-start-row-2 : tie.Need-overflow-mul-start-row-2 invariant-loop decreases-loop
-mul-start-row-2 c = search rules
+offset_bounds-b-r : tie.Need-offset_bounds-b-r invariant-loop-r decreases-loop-r
+offset_bounds-b-r c = search rules
 
-shared-slice-read-start-row : tie.Need-shared-slice-read-start-row invariant-loop decreases-loop
-shared-slice-read-start-row c = search rules
+bounds-b-r : tie.Need-bounds-b-r invariant-loop-r decreases-loop-r
+bounds-b-r c = search rules
 
-start-row-requires : tie.Need-start-row-requires invariant-loop decreases-loop
-start-row-requires c κs =
+start_row-requires : tie.Need-start_row-requires invariant-loop-r decreases-loop-r
+start_row-requires c κs =
     let l = c.before.before.before in
-    let p = l.before.before.before.requires in
-    (lent_length _ _ l.loop.r _ (whole l.loop.r) l.loop.invariant.0.long (omega arith), p.0 l.loop.r (omega arith))
+    let p = l.requires in
+    (lent_length _ _ l.loop-r.r _ (whole l.loop-r.r) l.loop-r.invariant.0.long (omega arith), p.0 l.loop-r.r (omega arith))
 
-add_r : tie.Need-overflow-add-r invariant-loop decreases-loop
-add_r c = search rules
+overflow_add-r : tie.Need-overflow_add-r invariant-loop-r decreases-loop-r
+overflow_add-r c = search rules
 
-loop-less : tie.Need-loop-smaller invariant-loop decreases-loop
+loop-less : tie.Need-loop-r-smaller invariant-loop-r decreases-loop-r
 loop-less c = search rules
 
-loop-again : tie.Need-loop-preserved invariant-loop decreases-loop
+loop-again : tie.Need-loop-r-preserved invariant-loop-r decreases-loop-r
 loop-again c =
     let t = c.before.before in
     let l = t.before.before.before.before in
-    (rw (add-one) (started_more l.loop.invariant.0 _ _ (whole l.loop.r) (omega arith) t.start-row.ensures), omega arith)
+    (rw (add-one) (started_more l.loop-r.invariant.0 _ _ (whole l.loop-r.r) (omega arith) t.start_row.ensures), omega arith)
 
-same_length : tie.Need-same-length invariant-loop decreases-loop
-same_length c = search rules
+shape_of-words : tie.Need-shape_of-words invariant-loop-r decreases-loop-r
+shape_of-words c = search rules
 
-returns : tie.Need-returns invariant-loop decreases-loop
-returns c = started_all c.before.loop.invariant.0 (omega arith)
+returns : tie.Need-returns invariant-loop-r decreases-loop-r
+returns c = started_all c.loop-r.invariant.0 (omega arith)
 
-pub start-rows_spec : {M : Type 1} → statement M
-start-rows_spec =
+pub start_rows_spec : {M : Type 1} → statement M
+start_rows_spec =
     tie.close
     (tie.spec
-    invariant-loop
-    decreases-loop
+    invariant-loop-r
+    decreases-loop-r
     loop-holds
-    mul-first
-    add-start-row
-    mul-start-row
-    sub-start-row
-    part-start-row-start
-    part-start-row-end
-    mul-start-row-2
-    shared-slice-read-start-row
-    start-row-requires
-    add_r
+    overflow_mul-first
+    overflow_add-first
+    offset_bounds-words-first
+    slice_bounds-start_row-count
+    slice_bounds-start_row-start
+    slice_bounds-start_row-end
+    offset_bounds-b-r
+    bounds-b-r
+    start_row-requires
+    overflow_add-r
     loop-less
     loop-again
-    same_length
+    shape_of-words
     returns)

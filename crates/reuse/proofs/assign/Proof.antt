@@ -9,73 +9,73 @@ use Rattle.reuse.proofs.Batch.{batch-begins, batches_end}
 use Rattle.reuse.proofs.assign.Statement.{statement}
 use Rattle.reuse.proofs.assign.Tie as tie
 
-abbrev invariant-loop : tie.invariant-loop
-invariant-loop n rows given₀ last₀ walk₀ m₀ given last walk m =
+abbrev invariant-loop-m : tie.invariant-loop-m
+invariant-loop-m n rows given₀ last₀ walk₀ m₀ given last walk m =
     ((L : Plan) → Planned n L rows given₀ → BatchAt n L (m - 1) rows last given walk) × (1 ≤ m) × (m ≤ suc n)
 
-abbrev decreases-loop : tie.decreases-loop
-decreases-loop n rows given₀ last₀ walk₀ m₀ given last walk m = suc n - m
+abbrev decreases-loop-m : tie.decreases-loop-m
+decreases-loop-m n rows given₀ last₀ walk₀ m₀ given last walk m = suc n - m
 
 -- Places of the code: the entry, seen from the loop's head; and a turn, seen from its end.
-abbrev entry : tie.At-loop invariant-loop decreases-loop → tie.Start invariant-loop decreases-loop
+abbrev entry : tie.At-loop-m invariant-loop-m decreases-loop-m → tie.Start invariant-loop-m decreases-loop-m
 entry c = c.before.before.before
 
-abbrev turn : tie.After-assign-batch invariant-loop decreases-loop → tie.In-loop invariant-loop decreases-loop
+abbrev turn : tie.After-assign_batch-walk invariant-loop-m decreases-loop-m → tie.In-loop-m invariant-loop-m decreases-loop-m
 turn c = c.before.before.before
 
 -- the batches before m are done for the plan that the entry knows of
-known : (c : tie.At-loop invariant-loop decreases-loop) → let a = (entry c).args in let l = c.loop in
+known : (c : tie.At-loop-m invariant-loop-m decreases-loop-m) → let a = (entry c).args in let l = c.loop-m in
     BatchAt a.n (entry c).requires.plan (l.m - 1) a.rows.now l.last l.given l.walk
-known c = c.loop.invariant.0 (entry c).requires.plan (entry c).requires.planned
+known c = c.loop-m.invariant.0 (entry c).requires.plan (entry c).requires.planned
 
-loop-holds : tie.Need-loop-init invariant-loop decreases-loop
+loop-holds : tie.Need-loop-m-init invariant-loop-m decreases-loop-m
 loop-holds c =
     let start = c.before.before in
     (λ L p. batch-begins p start.requires.count, omega arith, omega arith)
 
-slice-aggregate-assign-batch : tie.Need-slice-aggregate-assign-batch invariant-loop decreases-loop
-slice-aggregate-assign-batch c = sym (known c.before.before).notes.last_count
+slice_bounds-assign_batch-end : tie.Need-slice_bounds-assign_batch-end invariant-loop-m decreases-loop-m
+slice_bounds-assign_batch-end c = sym (known c.before.before).notes.last_count
 
-assign-batch-requires : tie.Need-assign-batch-requires invariant-loop decreases-loop
-assign-batch-requires c κs =
+assign_batch-walk-requires : tie.Need-assign_batch-walk-requires invariant-loop-m decreases-loop-m
+assign_batch-walk-requires c κs =
     let h = c.before.before.before in
-    (omega (arith, h.loop.invariant.1, c.before.before.loop-test.true), record { plan = (entry h).requires.plan; batch = known h })
+    (omega (arith, h.loop-m.invariant.1, c.loop-m-test.true), record { plan = (entry h).requires.plan; batch = known h })
 
-add-m : tie.Need-overflow-add-m invariant-loop decreases-loop
-add-m c =
+overflow_add-m : tie.Need-overflow_add-m invariant-loop-m decreases-loop-m
+overflow_add-m c =
     let t = turn c.before.before.before in
-    omega (arith, sizes (known t.before).good, t.loop-test.taken)
+    omega (arith, sizes (known t.before).good, t.loop-m-test.taken)
 
-loop-less : tie.Need-loop-smaller invariant-loop decreases-loop
+loop-less : tie.Need-loop-m-smaller invariant-loop-m decreases-loop-m
 loop-less c = omega arith
 
-loop-again : tie.Need-loop-preserved invariant-loop decreases-loop
+loop-again : tie.Need-loop-m-preserved invariant-loop-m decreases-loop-m
 loop-again c =
     let done = c.before.before.before in
     let h = (turn done).before in
-    let back : h.loop.m + 1 - 1 ≡ h.loop.m = omega arith in
-    (λ L p. rw back (done.assign-batch.ensures L (h.loop.inv.0 L p)), omega arith, omega (arith, (turn done).loop-test.true))
+    let back : h.loop-m.m + 1 - 1 ≡ h.loop-m.m = omega arith in
+    (λ L p. rw back (done.assign_batch-walk.ensures L (h.loop-m.inv.0 L p)), omega arith, omega (arith, (turn done).loop-test.true))
 
-same_length : tie.Need-same-length invariant-loop decreases-loop
-same_length c = omega (arith, (known c.before).holds.count, (entry c.before).pre.count)
+shape_of-given : tie.Need-shape_of-given invariant-loop-m decreases-loop-m
+shape_of-given c = omega (arith, (known c.before).holds.count, (entry c.before).pre.count)
 
-returns : tie.Need-returns invariant-loop decreases-loop
+returns : tie.Need-returns invariant-loop-m decreases-loop-m
 returns c L p =
-    let v = c.before.loop.invariant in
-    let end : c.before.loop.m - 1 ≡ (entry c.before).args.n = omega (arith, v, c.loop-test.false) in
+    let v = c.loop-m.invariant in
+    let end : c.loop-m.m - 1 ≡ (entry c.before).args.n = omega (arith, v, c.loop-m-test.false) in
     batches_end (rw end at (v.0 L p))
 
 pub assign_spec : {M : Type 1} → statement M
 assign_spec =
     tie.close
     (tie.spec
-    invariant-loop
-    decreases-loop
+    invariant-loop-m
+    decreases-loop-m
     loop-holds
-    slice-aggregate-assign-batch
-    assign-batch-requires
-    add-m
+    slice_bounds-assign_batch-end
+    assign_batch-walk-requires
+    overflow_add-m
     loop-less
     loop-again
-    same_length
+    shape_of-given
     returns)

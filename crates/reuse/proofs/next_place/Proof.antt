@@ -5,83 +5,83 @@ use Rattle.reuse.proofs.Freed.{gave-none, gave_again, gave_new}
 use Rattle.reuse.proofs.next_place.Statement.{statement}
 use Rattle.reuse.proofs.next_place.Tie as tie
 
-wide-requires : tie.Need-wide-requires
-wide-requires c κs = search rules
+wide-at-requires : tie.Need-wide-at-requires
+wide-at-requires c κs = search rules
 
-add_done : tie.Need-overflow-add-done
-add_done c = search rules
+overflow_add-done : tie.Need-overflow_add-done
+overflow_add-done c = search rules
 
-mul-if1 : tie.Need-overflow-mul-if1
-mul-if1 c = search rules
+offset_bounds-given-at : tie.Need-offset_bounds-given-at
+offset_bounds-given-at c = search rules
 
-slice-read-if1 : tie.Need-slice-read-if1
-slice-read-if1 c = search rules
+bounds-given-at : tie.Need-bounds-given-at
+bounds-given-at c = search rules
 
-returns : tie.Need-returns
-returns c = gave-none c.before.before.before.wide.ensures (omega arith) c.if1.true
+returns-then-given-at-eq0 : tie.Need-returns-then-given-at-eq0
+returns-then-given-at-eq0 c = gave-none c.wide-at.ensures (omega arith) c.if-given-at-eq0.true
 
-mul-given : tie.Need-overflow-mul-given
-mul-given c = search rules
+offset_bounds-given-top : tie.Need-offset_bounds-given-top
+offset_bounds-given-top c = search rules
 
-slice-read-given : tie.Need-slice-read-given
-slice-read-given c = search rules
+bounds-given-top : tie.Need-bounds-given-top
+bounds-given-top c = search rules
 
-mul-given-2 : tie.Need-overflow-mul-given-2
-mul-given-2 c = search rules
+offset_bounds-given-at-then-top-given : tie.Need-offset_bounds-given-at-then-top-given
+offset_bounds-given-at-then-top-given c = search rules
 
-slice-write-given : tie.Need-slice-write-given
-slice-write-given c = search rules
+bounds-given-at-then-top-given : tie.Need-bounds-given-at-then-top-given
+bounds-given-at-then-top-given c = search rules
 
-add-t11 : tie.Need-overflow-add-t11
-add-t11 c = search rules
+overflow_add-result : tie.Need-overflow_add-result
+overflow_add-result c = search rules
 
-same_length : tie.Need-same-length
-same_length c = search rules
+shape_of-given-then-top-given : tie.Need-shape_of-given-then-top-given
+shape_of-given-then-top-given c = search rules
 
-returns-2 : tie.Need-returns-2
-returns-2 c =
+returns-then-top-given : tie.Need-returns-then-top-given
+returns-then-top-given c =
     let test = c.before.before in
-    gave_again test.before.before.before.wide.ensures c.before.if2.true test.if1.false
+    gave_again test.wide-at.ensures c.if-top-given.true test.if-given-at-eq0.false
 
-add-given : tie.Need-overflow-add-given
-add-given c = search rules
+overflow_add-given : tie.Need-overflow_add-given
+overflow_add-given c = search rules
 
-mul-given-3 : tie.Need-overflow-mul-given-3
-mul-given-3 c = search rules
+offset_bounds-given-at-2 : tie.Need-offset_bounds-given-at-2
+offset_bounds-given-at-2 c = search rules
 
-slice-write-given-2 : tie.Need-slice-write-given-2
-slice-write-given-2 c = search rules
+bounds-given-at-2 : tie.Need-bounds-given-at-2
+bounds-given-at-2 c = search rules
 
-add-t9 : tie.Need-overflow-add-t9
-add-t9 c = search rules
+overflow_add-result-2 : tie.Need-overflow_add-result-2
+overflow_add-result-2 c = search rules
 
-same-length-2 : tie.Need-same-length-2
-same-length-2 c = search rules
+shape_of-given : tie.Need-shape_of-given
+shape_of-given c = search rules
 
-returns-3 : tie.Need-returns-3
+returns-3 : tie.Need-returns
 returns-3 c =
     let test = c.before in
-    gave_new test.before.before.before.wide.ensures (omega arith) c.if2.false test.if1.false
+    gave_new test.wide-at.ensures (omega arith) c.if-top-given.false test.if-given-at-eq0.false
 
-pub next-place_spec : {M : Type 1} → statement M
-next-place_spec =
+pub next_place_spec : {M : Type 1} → statement M
+next_place_spec =
     tie.close
     (tie.spec
-    wide-requires
-    add_done
-    mul-if1
-    slice-read-if1
-    returns
-    mul-given
-    slice-read-given
-    mul-given-2
-    slice-write-given
-    add-t11
-    same_length
-    returns-2
-    add-given
-    mul-given-3
-    slice-write-given-2
-    add-t9
-    same-length-2
+    wide-at-requires
+    overflow_add-done
+    offset_bounds-given-at
+    bounds-given-at
+    returns-then-given-at-eq0
+    offset_bounds-given-top
+    bounds-given-top
+    offset_bounds-given-at-then-top-given
+    bounds-given-at-then-top-given
+    overflow_add-result
+    shape_of-given-then-top-given
+    returns-then-top-given
+    overflow_add-given
+    offset_bounds-given-at-2
+    bounds-given-at-2
+    overflow_add-result-2
+    shape_of-given
     returns-3)

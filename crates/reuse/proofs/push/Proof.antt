@@ -7,27 +7,27 @@ use Rattle.reuse.proofs.Freed.{on_top, below_top}
 use Rattle.reuse.proofs.push.Statement.{statement}
 use Rattle.reuse.proofs.push.Tie as tie
 
-returns : tie.Need-returns
-returns c = (rw (not-true c.before.args.freed c.if1.true), (omega arith, λ k early. refl))
+returns-then-not-freed : tie.Need-returns-then-not-freed
+returns-then-not-freed c = (rw (not-true c.args.freed c.if-not-freed.true), (omega arith, λ k early. refl))
 
-sub_at : tie.Need-overflow-sub-at
-sub_at c = search rules
+overflow_sub-at : tie.Need-overflow_sub-at
+overflow_sub-at c = search rules
 
-mul-given : tie.Need-overflow-mul-given
-mul-given c = search rules
+offset_bounds-given-at : tie.Need-offset_bounds-given-at
+offset_bounds-given-at c = search rules
 
-slice-write-given : tie.Need-slice-write-given
-slice-write-given c = search rules
+bounds-given-at : tie.Need-bounds-given-at
+bounds-given-at c = search rules
 
-same_length : tie.Need-same-length
-same_length c = search rules
+shape_of-given : tie.Need-shape_of-given
+shape_of-given c = search rules
 
-returns-2 : tie.Need-returns-2
+returns-2 : tie.Need-returns
 returns-2 c =
     let start = c.before in (
-      rw (not-false start.args.freed c.if1.false) (on_top _ _ _ start.requires.0 start.requires.1),
+      rw (not-false start.args.freed c.if-not-freed.false) (on_top _ _ _ start.requires.0 start.requires.1),
       (omega arith, λ k early. below_top start.args.given.now start.args.top start.args.slot k start.requires.0 early),
     )
 
 pub push_spec : {M : Type 1} → statement M
-push_spec = tie.close (tie.spec returns sub_at mul-given slice-write-given same_length returns-2)
+push_spec = tie.close (tie.spec returns-then-not-freed overflow_sub-at offset_bounds-given-at bounds-given-at shape_of-given returns-2)

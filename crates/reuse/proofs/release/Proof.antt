@@ -11,132 +11,132 @@ use Rattle.reuse.proofs.Freed.{Releasing, releasing_starts, releasing_place, die
 use Rattle.reuse.proofs.release.Statement.{statement}
 use Rattle.reuse.proofs.release.Tie as tie
 
-abbrev invariant-loop : tie.invariant-loop
-invariant-loop n from last given₀ m t top₀ top_start h₀ across₀ given top h across = Releasing n m t (max 1 from) last given₀ top₀ given top h across
+abbrev invariant-loop-h : tie.invariant-loop-h
+invariant-loop-h n from last given₀ m t top₀ top_start h₀ across₀ given top h across = Releasing n m t (max 1 from) last given₀ top₀ given top h across
 
-abbrev decreases-loop : tie.decreases-loop
-decreases-loop n from last given₀ m t top₀ top_start h₀ across₀ given top h across = m - h
+abbrev decreases-loop-h : tie.decreases-loop-h
+decreases-loop-h n from last given₀ m t top₀ top_start h₀ across₀ given top h across = m - h
 
 -- Places of the code: a turn, seen from its end, and the entry, seen from the loop's head.
 abbrev Turn : Type 0
-Turn = tie.In-loop invariant-loop decreases-loop
+Turn = tie.In-loop-h invariant-loop-h decreases-loop-h
 
-abbrev entry : tie.At-loop invariant-loop decreases-loop → tie.Start invariant-loop decreases-loop
+abbrev entry : tie.At-loop-h invariant-loop-h decreases-loop-h → tie.Start invariant-loop-h decreases-loop-h
 entry c = c.before.before.before.before.before.before
 
-abbrev turn : tie.After-wide3 invariant-loop decreases-loop → Turn
+abbrev turn : tie.After-wide-in-loop-h invariant-loop-h decreases-loop-h → Turn
 turn c = c.before.before.before.before.before.before.before
 
-larger-requires : tie.Need-larger-requires invariant-loop decreases-loop
-larger-requires c κs = search rules
+larger-h-requires : tie.Need-larger-h-requires invariant-loop-h decreases-loop-h
+larger-h-requires c κs = search rules
 
-label-requires : tie.Need-label-requires invariant-loop decreases-loop
+label-requires : tie.Need-label-requires invariant-loop-h decreases-loop-h
 label-requires c κs = search rules
 
-wide-requires : tie.Need-wide-requires invariant-loop decreases-loop
-wide-requires c κs = search rules
+wide-across-requires : tie.Need-wide-across-requires invariant-loop-h decreases-loop-h
+wide-across-requires c κs = search rules
 
-loop-holds : tie.Need-loop-init invariant-loop decreases-loop
+loop-holds : tie.Need-loop-h-init invariant-loop-h decreases-loop-h
 loop-holds c =
     let start = c.before.before.before.before.before in
-    releasing_starts c.before.before.larger.ensures (omega (arith, c.before.before.larger.ensures)) start.requires.1.0 start.requires.1.1
-    (λ below. c.wide.ensures ∙ (c.before.label.ensures ∙ label-answered _ _ _ start.requires.0.1.0 (omega arith)))
+    releasing_starts c.larger-h.ensures (omega (arith, c.larger-h.ensures)) start.requires.1.0 start.requires.1.1
+    (λ below. c.wide-across.ensures ∙ (c.label.ensures ∙ label-answered _ _ _ start.requires.0.1.0 (omega arith)))
 
 -- the label of the place of a turn
-here : (c : Turn) → let l = c.before.loop in (1 ≤ l.across) × (l.across ≤ (entry c.before).args.n * (entry c.before).args.n)
+here : (c : Turn) → let l = c.loop-h in (1 ≤ l.across) × (l.across ≤ (entry c.before).args.n * (entry c.before).args.n)
     × (l.across ≤ length l.given) × (l.across ≤ 360000)
 here c =
     let pre = (entry c.before).pre in
-    releasing_place c.before.loop.invariant c.loop-test.true pre.0.0.row-high pre.0.1.0
+    releasing_place c.loop-h.invariant c.loop-h-test.true pre.0.0.row-high pre.0.1.0
 
-sub-slot : tie.Need-overflow-sub-slot invariant-loop decreases-loop
-sub-slot c = omega (arith, here c)
+overflow_sub-slot : tie.Need-overflow_sub-slot invariant-loop-h decreases-loop-h
+overflow_sub-slot c = omega (arith, here c)
 
-mul-slot : tie.Need-overflow-mul-slot invariant-loop decreases-loop
-mul-slot c = omega (arith, here c)
+offset_bounds-given-across : tie.Need-offset_bounds-given-across invariant-loop-h decreases-loop-h
+offset_bounds-given-across c = omega (arith, here c)
 
-slice-read-slot : tie.Need-slice-read-slot invariant-loop decreases-loop
-slice-read-slot c = omega (arith, here c.before)
+bounds-given-across : tie.Need-bounds-given-across invariant-loop-h decreases-loop-h
+bounds-given-across c = omega (arith, here c.before)
 
-wide-requires-2 : tie.Need-wide-requires-2 invariant-loop decreases-loop
+wide-requires-2 : tie.Need-wide-requires invariant-loop-h decreases-loop-h
 wide-requires-2 c κs = search rules
 
-mul-larger : tie.Need-overflow-mul-larger invariant-loop decreases-loop
-mul-larger c = omega arith
+offset_bounds-last-wide : tie.Need-offset_bounds-last-wide invariant-loop-h decreases-loop-h
+offset_bounds-last-wide c = omega arith
 
-shared-slice-read-larger : tie.Need-shared-slice-read-larger invariant-loop decreases-loop
-shared-slice-read-larger c = omega (arith, c.before.wide2.ensures)
+bounds-last-wide : tie.Need-bounds-last-wide invariant-loop-h decreases-loop-h
+bounds-last-wide c = omega (arith, c.wide.ensures)
 
-larger-requires-2 : tie.Need-larger-requires-2 invariant-loop decreases-loop
+larger-requires-2 : tie.Need-larger-requires invariant-loop-h decreases-loop-h
 larger-requires-2 c κs = search rules
 
-push-requires : tie.Need-push-requires invariant-loop decreases-loop
-push-requires c κs =
-    let l = c.before.before.before.before.loop.invariant in
+push-top-requires : tie.Need-push-top-requires invariant-loop-h decreases-loop-h
+push-top-requires c κs =
+    let l = c.loop-h.invariant in
     (omega (arith, l.room, l.low), omega (arith, l.same, l.fits))
 
-sub_wide : tie.Need-overflow-sub-wide invariant-loop decreases-loop
-sub_wide c = omega arith
+overflow_sub-n : tie.Need-overflow_sub-n invariant-loop-h decreases-loop-h
+overflow_sub-n c = omega arith
 
-wide-requires-3 : tie.Need-wide-requires-3 invariant-loop decreases-loop
-wide-requires-3 c κs = search rules
+wide-requires-in-loop-h : tie.Need-wide-requires-in-loop-h invariant-loop-h decreases-loop-h
+wide-requires-in-loop-h c κs = search rules
 
-mul-across : tie.Need-overflow-mul-across invariant-loop decreases-loop
-mul-across c = omega arith
+overflow_mul-across : tie.Need-overflow_mul-across invariant-loop-h decreases-loop-h
+overflow_mul-across c = omega arith
 
-add-across : tie.Need-overflow-add-across invariant-loop decreases-loop
-add-across c = omega (arith, here (turn c))
+overflow_add-across : tie.Need-overflow_add-across invariant-loop-h decreases-loop-h
+overflow_add-across c = omega (arith, here (turn c))
 
-add-h : tie.Need-overflow-add-h invariant-loop decreases-loop
-add-h c = omega arith
+overflow_add-h : tie.Need-overflow_add-h invariant-loop-h decreases-loop-h
+overflow_add-h c = omega arith
 
-loop-less : tie.Need-loop-smaller invariant-loop decreases-loop
+loop-less : tie.Need-loop-h-smaller invariant-loop-h decreases-loop-h
 loop-less c = omega arith
 
-loop-again : tie.Need-loop-preserved invariant-loop decreases-loop
+loop-again : tie.Need-loop-h-preserved invariant-loop-h decreases-loop-h
 loop-again c =
     let t = turn c in
-    let r = t.before.loop.inv in
+    let r = t.loop-h.inv in
     let call = c.before.before.before in
-    let pushed = call.push.ensures in
-    let way = call.before.before.if1.branch in
+    let pushed = call.push-top.ensures in
+    let way = call.if-slot-ne0.branch in
     let dies = ⊎_elim (λ w. dies_if_last r w.0.taken w.1.ensures w.3.ensures w.4) (λ w. dies_not r w.0.left w.1) way in
     let pre = (entry t.before).pre in
-    releasing_more r t.loop-test.taken pre.0.0.row-high pre.0.1.0 c.wide3.ensures dies pushed.0 (search rules)
+    releasing_more r t.loop-h-test.taken pre.0.0.row-high pre.0.1.0 c.wide-in-loop-h.ensures dies pushed.0 (search rules)
     pushed.1.0.0 pushed.1.0.1 pushed.1.1
 
-same_length : tie.Need-same-length invariant-loop decreases-loop
-same_length c = c.before.loop.invariant.same
+shape_of-given : tie.Need-shape_of-given invariant-loop-h decreases-loop-h
+shape_of-given c = c.loop-h.invariant.same
 
-returns : tie.Need-returns invariant-loop decreases-loop
+returns : tie.Need-returns invariant-loop-h decreases-loop-h
 returns c =
-    let r = c.before.loop.invariant in
-    (releasing_ends r c.loop-test.false, ((r.above, r.fits), r.kept))
+    let r = c.loop-h.invariant in
+    (releasing_ends r c.loop-h-test.false, ((r.above, r.fits), r.kept))
 
 pub release_spec : {M : Type 1} → statement M
 release_spec =
     tie.close
     (tie.spec
-    invariant-loop
-    decreases-loop
-    larger-requires
+    invariant-loop-h
+    decreases-loop-h
+    larger-h-requires
     label-requires
-    wide-requires
+    wide-across-requires
     loop-holds
-    sub-slot
-    mul-slot
-    slice-read-slot
+    overflow_sub-slot
+    offset_bounds-given-across
+    bounds-given-across
     wide-requires-2
-    mul-larger
-    shared-slice-read-larger
+    offset_bounds-last-wide
+    bounds-last-wide
     larger-requires-2
-    push-requires
-    sub_wide
-    wide-requires-3
-    mul-across
-    add-across
-    add-h
+    push-top-requires
+    overflow_sub-n
+    wide-requires-in-loop-h
+    overflow_mul-across
+    overflow_add-across
+    overflow_add-h
     loop-less
     loop-again
-    same_length
+    shape_of-given
     returns)

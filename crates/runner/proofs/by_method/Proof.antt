@@ -7,58 +7,58 @@ use Rattle.runner.proofs.by_method.Statement.{statement}
 use Rattle.runner.proofs.by_method.Tie as tie
 
 -- the entry, seen from where the method is asked
-abbrev entry : tie.After-shared-slice-known4 → tie.Start
+abbrev entry : tie.After-shared_slice_known-4-1 → tie.Start
 entry c = c.before.before.before.before.before.before.before
 
-shared-slice-read-if1 : tie.Need-shared-slice-read-if1
-shared-slice-read-if1 c = omega (arith, fine-passed _ (entry c).requires.checked)
+bounds-words-2 : tie.Need-bounds-words-2
+bounds-words-2 c = omega (arith, fine-passed _ (entry c).requires.checked)
 
 sweep-requires : tie.Need-sweep-requires
 sweep-requires c κs =
     let t = c.before.before.before in
-    ((entry t.before).requires, eq-eqb _ 0 t.if1.true)
+    ((entry t.before).requires, eq-eqb _ 0 t.if-words-eq0.true)
 
 once-requires : tie.Need-once-requires
 once-requires c κs =
     let t = c.before.before.before in
-    ((entry t.before).requires, ne_eqb _ 0 t.if1.false)
+    ((entry t.before).requires, ne_eqb _ 0 t.if-words-eq0.false)
 
-same_length : tie.Need-same-length
-same_length c = search rules
+shape_of-c-then-words-eq0 : tie.Need-shape_of-c-then-words-eq0
+shape_of-c-then-words-eq0 c = search rules
 
-same-length-2 : tie.Need-same-length-2
-same-length-2 c = search rules
+shape_of-y-then-words-eq0 : tie.Need-shape_of-y-then-words-eq0
+shape_of-y-then-words-eq0 c = search rules
 
-same-length-3 : tie.Need-same-length-3
-same-length-3 c = search rules
+shape_of-x-then-words-eq0 : tie.Need-shape_of-x-then-words-eq0
+shape_of-x-then-words-eq0 c = search rules
 
-returns : tie.Need-returns
-returns c = search rules
+returns-then-words-eq0 : tie.Need-returns-then-words-eq0
+returns-then-words-eq0 c = search rules
 
-same-length-4 : tie.Need-same-length-4
-same-length-4 c = search rules
+shape_of-c-else-words-eq0 : tie.Need-shape_of-c-else-words-eq0
+shape_of-c-else-words-eq0 c = search rules
 
-same-length-5 : tie.Need-same-length-5
-same-length-5 c = search rules
+shape_of-y-else-words-eq0 : tie.Need-shape_of-y-else-words-eq0
+shape_of-y-else-words-eq0 c = search rules
 
-same-length-6 : tie.Need-same-length-6
-same-length-6 c = search rules
+shape_of-x-else-words-eq0 : tie.Need-shape_of-x-else-words-eq0
+shape_of-x-else-words-eq0 c = search rules
 
-returns-2 : tie.Need-returns-2
-returns-2 c = search rules
+returns-else-words-eq0 : tie.Need-returns-else-words-eq0
+returns-else-words-eq0 c = search rules
 
 pub by_method_spec : {M : Type 1} → statement M
 by_method_spec =
     tie.close
     (tie.spec
-    shared-slice-read-if1
+    bounds-words-2
     sweep-requires
     once-requires
-    same_length
-    same-length-2
-    same-length-3
-    returns
-    same-length-4
-    same-length-5
-    same-length-6
-    returns-2)
+    shape_of-c-then-words-eq0
+    shape_of-y-then-words-eq0
+    shape_of-x-then-words-eq0
+    returns-then-words-eq0
+    shape_of-c-else-words-eq0
+    shape_of-y-else-words-eq0
+    shape_of-x-else-words-eq0
+    returns-else-words-eq0)

@@ -17,32 +17,32 @@ record Cleared (vs : List Float) (end : ℕ) (now : List Float) (i : ℕ) : Type
   long : length now ≡ length vs
   is : now ≡ replicate i plus_zero ++ drop i vs
 
-abbrev invariant-loop : tie.invariant-loop
-invariant-loop values₀ i₀ i-end values i = Cleared values₀ i-end values i
+abbrev invariant-loop-i : tie.invariant-loop-i
+invariant-loop-i values₀ i₀ i-end values i = Cleared values₀ i-end values i
 
-abbrev decreases-loop : tie.decreases-loop
-decreases-loop values₀ i₀ i-end values i = i-end - i
+abbrev decreases-loop-i : tie.decreases-loop-i
+decreases-loop-i values₀ i₀ i-end values i = i-end - i
 
-loop-holds : tie.Need-loop-init invariant-loop decreases-loop
+loop-holds : tie.Need-loop-i-init invariant-loop-i decreases-loop-i
 loop-holds c = record { low = omega arith; all = refl; long = refl; is = refl }
 
-mul-values : tie.Need-overflow-mul-values invariant-loop decreases-loop
-mul-values c = omega arith
+offset_bounds-values-i : tie.Need-offset_bounds-values-i invariant-loop-i decreases-loop-i
+offset_bounds-values-i c = omega arith
 
-slice-write-values : tie.Need-slice-write-values invariant-loop decreases-loop
-slice-write-values c = omega arith
+bounds-values-i : tie.Need-bounds-values-i invariant-loop-i decreases-loop-i
+bounds-values-i c = omega arith
 
-add-i : tie.Need-overflow-add-i invariant-loop decreases-loop
-add-i c = omega arith
+overflow_step-i : tie.Need-overflow_step-i invariant-loop-i decreases-loop-i
+overflow_step-i c = omega arith
 
-loop-less : tie.Need-loop-smaller invariant-loop decreases-loop
+loop-less : tie.Need-loop-i-smaller invariant-loop-i decreases-loop-i
 loop-less c = omega arith
 
-loop-again : tie.Need-loop-preserved invariant-loop decreases-loop
+loop-again : tie.Need-loop-i-preserved invariant-loop-i decreases-loop-i
 unfolding of_bits
 loop-again c =
-    let vs = c.before.before.args.values.now in
-    let l = c.before.loop in
+    let vs = c.args.values.now in
+    let l = c.loop-i in
     record {
       low = omega arith;
       all = refl;
@@ -50,23 +50,23 @@ loop-again c =
       is = rw (l.invariant.is, add-one) (clear_more l.i plus_zero vs (omega arith));
     }
 
-same_length : tie.Need-same-length invariant-loop decreases-loop
-same_length c = c.before.loop.invariant.long
+shape_of-values : tie.Need-shape_of-values invariant-loop-i decreases-loop-i
+shape_of-values c = c.loop-i.invariant.long
 
-returns : tie.Need-returns invariant-loop decreases-loop
-returns c = c.before.loop.invariant.is ∙ clear_all c.before.loop.i plus_zero c.before.before.args.values.now (omega arith)
+returns : tie.Need-returns invariant-loop-i decreases-loop-i
+returns c = c.loop-i.invariant.is ∙ clear_all c.loop-i.i plus_zero c.args.values.now (omega arith)
 
 pub clear_spec : {M : Type 1} → statement M
 clear_spec =
     tie.close
     (tie.spec
-    invariant-loop
-    decreases-loop
+    invariant-loop-i
+    decreases-loop-i
     loop-holds
-    mul-values
-    slice-write-values
-    add-i
+    offset_bounds-values-i
+    bounds-values-i
+    overflow_step-i
     loop-less
     loop-again
-    same_length
+    shape_of-values
     returns)

@@ -14,62 +14,62 @@ use Rattle.runner.proofs.Tables.{finite_all, finite_on, finite_not}
 use Rattle.runner.proofs.first_not_finite.Statement.{statement}
 use Rattle.runner.proofs.first_not_finite.Tie as tie
 
-abbrev invariant-loop : tie.invariant-loop
-invariant-loop values i₀ i = (i ≤ length values) × (not_finite 1 values ≡ not_finite (suc i) (drop i values))
+abbrev invariant-loop-i : tie.invariant-loop-i
+invariant-loop-i values i₀ i = (i ≤ length values) × (not_finite 1 values ≡ not_finite (suc i) (drop i values))
 
-abbrev decreases-loop : tie.decreases-loop
-decreases-loop values i₀ i = length values - i
+abbrev decreases-loop-i : tie.decreases-loop-i
+decreases-loop-i values i₀ i = length values - i
 
-loop-holds : tie.Need-loop-init invariant-loop decreases-loop
+loop-holds : tie.Need-loop-i-init invariant-loop-i decreases-loop-i
 loop-holds c = (omega arith, refl)
 
-add-i : tie.Need-overflow-add-i invariant-loop decreases-loop
-add-i c = omega arith
+overflow_add-i : tie.Need-overflow_add-i invariant-loop-i decreases-loop-i
+overflow_add-i c = omega arith
 
-mul-is-finite : tie.Need-overflow-mul-is-finite invariant-loop decreases-loop
-mul-is-finite c = omega arith
+offset_bounds-values-at : tie.Need-offset_bounds-values-at invariant-loop-i decreases-loop-i
+offset_bounds-values-at c = omega arith
 
-shared-slice-read-is-finite : tie.Need-shared-slice-read-is-finite invariant-loop decreases-loop
-shared-slice-read-is-finite c = omega arith
+bounds-values-at : tie.Need-bounds-values-at invariant-loop-i decreases-loop-i
+bounds-values-at c = omega arith
 
-is-finite-requires : tie.Need-is-finite-requires invariant-loop decreases-loop
-is-finite-requires c κs = search rules
+is_finite-requires : tie.Need-is_finite-requires invariant-loop-i decreases-loop-i
+is_finite-requires c κs = search rules
 
 -- the turn's value, as it was tested
-tested : (c : tie.After-is-finite invariant-loop decreases-loop)
-    → is_finite (get_or c.before.before.before.before.before.args.values.now c.before.before.before.loop.i plus_zero) ≡ c.is-finite.result
+tested : (c : tie.After-is_finite invariant-loop-i decreases-loop-i)
+    → is_finite (get_or c.args.values.now c.loop-i.i plus_zero) ≡ c.is_finite.result
 tested c =
-    let vs = c.before.before.before.before.before.args.values.now in
-    ap is_finite (get_or-within vs c.before.before.before.loop.i plus_zero nan (omega arith)) ∙ sym c.is-finite.ensures
+    let vs = c.args.values.now in
+    ap is_finite (get_or-within vs c.loop-i.i plus_zero nan (omega arith)) ∙ sym c.is_finite.ensures
 
-returns : tie.Need-returns invariant-loop decreases-loop
-returns c =
-    let l = c.before.before.before.before.loop in
-    add-one l.i ∙ sym (l.invariant.1 ∙ finite_not _ l.i (omega arith) (tested c.before ∙ not-true _ c.if1.true))
+returns-then-not-is_finite : tie.Need-returns-then-not-is_finite invariant-loop-i decreases-loop-i
+returns-then-not-is_finite c =
+    let l = c.loop-i in
+    add-one l.i ∙ sym (l.invariant.1 ∙ finite_not _ l.i (omega arith) (tested c.before ∙ not-true _ c.if-not-is_finite.true))
 
-loop-less : tie.Need-loop-smaller invariant-loop decreases-loop
+loop-less : tie.Need-loop-i-smaller invariant-loop-i decreases-loop-i
 loop-less c = omega arith
 
-loop-again : tie.Need-loop-preserved invariant-loop decreases-loop
+loop-again : tie.Need-loop-i-preserved invariant-loop-i decreases-loop-i
 loop-again c =
-    let l = c.before.before.before.before.loop in
-    (omega arith, rw add-one (l.invariant.1 ∙ finite_on _ l.i (omega arith) (tested c.before ∙ not-false _ c.if1.false)))
+    let l = c.loop-i in
+    (omega arith, rw add-one (l.invariant.1 ∙ finite_on _ l.i (omega arith) (tested c.before ∙ not-false _ c.if-not-is_finite.false)))
 
-returns-2 : tie.Need-returns-2 invariant-loop decreases-loop
-returns-2 c = sym (c.before.loop.invariant.1 ∙ finite_all c.before.before.before.args.values.now c.before.loop.i (omega arith))
+returns-2 : tie.Need-returns invariant-loop-i decreases-loop-i
+returns-2 c = sym (c.loop-i.invariant.1 ∙ finite_all c.args.values.now c.loop-i.i (omega arith))
 
 pub first_not_finite_spec : {M : Type 1} → statement M
 first_not_finite_spec =
     tie.close
     (tie.spec
-    invariant-loop
-    decreases-loop
+    invariant-loop-i
+    decreases-loop-i
     loop-holds
-    add-i
-    mul-is-finite
-    shared-slice-read-is-finite
-    is-finite-requires
-    returns
+    overflow_add-i
+    offset_bounds-values-at
+    bounds-values-at
+    is_finite-requires
+    returns-then-not-is_finite
     loop-less
     loop-again
     returns-2)

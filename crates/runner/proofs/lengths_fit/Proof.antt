@@ -7,135 +7,135 @@ use Rattle.model.proofs.Runs.{lengths_right}
 use Rattle.runner.proofs.lengths_fit.Statement.{statement}
 use Rattle.runner.proofs.lengths_fit.Tie as tie
 
-shared-slice-read-wide : tie.Need-shared-slice-read-wide
-shared-slice-read-wide c = search rules
+bounds-words-0 : tie.Need-bounds-words-0
+bounds-words-0 c = search rules
 
-wide-requires : tie.Need-wide-requires
-wide-requires c κs = search rules
+wide-order-requires : tie.Need-wide-order-requires
+wide-order-requires c κs = search rules
 
-shared-slice-read-length-of-y : tie.Need-shared-slice-read-length-of-y
-shared-slice-read-length-of-y c = search rules
+bounds-words-0-2 : tie.Need-bounds-words-0-2
+bounds-words-0-2 c = search rules
 
-shared-slice-read-length-of-y-2 : tie.Need-shared-slice-read-length-of-y-2
-shared-slice-read-length-of-y-2 c = search rules
+bounds-words-2 : tie.Need-bounds-words-2
+bounds-words-2 c = search rules
 
-length-of-y-requires : tie.Need-length-of-y-requires
-length-of-y-requires c κs = search rules
+length_of_y-requires : tie.Need-length_of_y-requires
+length_of_y-requires c κs = search rules
 
-wide-requires-2 : tie.Need-wide-requires-2
-wide-requires-2 c κs = search rules
+wide-in_y-requires : tie.Need-wide-in_y-requires
+wide-in_y-requires c κs = search rules
 
-shared-slice-read-wide-2 : tie.Need-shared-slice-read-wide-2
-shared-slice-read-wide-2 c = search rules
+bounds-words-1 : tie.Need-bounds-words-1
+bounds-words-1 c = search rules
 
-wide-requires-3 : tie.Need-wide-requires-3
+wide-requires-3 : tie.Need-wide-requires
 wide-requires-3 c κs = search rules
 
-shared-slice-read-wide-3 : tie.Need-shared-slice-read-wide-3
-shared-slice-read-wide-3 c = search rules
+bounds-words-2-then-b-order : tie.Need-bounds-words-2-then-b-order
+bounds-words-2-then-b-order c = search rules
 
-wide-requires-4 : tie.Need-wide-requires-4
-wide-requires-4 c κs = search rules
+wide-requires-then-b-order : tie.Need-wide-requires-then-b-order
+wide-requires-then-b-order c κs = search rules
 
 -- Places of the code: where n is read, and s, and before them the order and the length of Y.
-abbrev coefficients : tie.After-wide4 → tie.After-wide3
+abbrev coefficients : tie.After-wide-then-b-order → tie.After-wide
 coefficients c = c.before.before.before.before
 
-abbrev rows : tie.After-wide3 → tie.After-wide2
+abbrev rows : tie.After-wide → tie.After-wide-in_y
 rows c = c.before.before
 
-abbrev order : tie.After-wide3 → tie.After-wide
+abbrev order : tie.After-wide → tie.After-wide-order
 order c = (rows c).before.before.before.before
 
-in_y : (c : tie.After-wide3) → let W = (order c).before.before.before.args.words.now in (rows c).wide2.result ≡ length_y (word W 0) (word W 2)
+in_y : (c : tie.After-wide) → let W = (order c).before.before.before.args.words.now in (rows c).wide2.result ≡ length_y (word W 0) (word W 2)
 in_y c = (rows c).wide2.ensures ∙ (rows c).before.length-of-y.ensures
 
-returns : tie.Need-returns
+returns-then-y-in_y : tie.Need-returns-then-y-in_y
 unfolding lengths_right
-returns c =
+returns-then-y-in_y c =
     let s = c.before.before in
     let n = coefficients s in
     rw (
       ← in_y n,
       ← (order n).wide.ensures,
-      ← n.wide3.ensures,
-      ← s.wide4.ensures,
-      eq-eqb _ _ s.before.before.before.if1.true,
-      eq-eqb _ _ s.before.before.if2.true,
-      eq-eqb _ _ c.before.if3.true,
-      eq-eqb _ _ c.if4.true,
+      ← n.wide.ensures,
+      ← s.wide-then-b-order.ensures,
+      eq-eqb _ _ s.if-a-wide.true,
+      eq-eqb _ _ s.if-b-order.true,
+      eq-eqb _ _ c.if-c-wide.true,
+      eq-eqb _ _ c.if-y-in_y.true,
     )
 
-returns-2 : tie.Need-returns-2
+returns-else-y-in_y : tie.Need-returns-else-y-in_y
 unfolding lengths_right
-returns-2 c =
+returns-else-y-in_y c =
     let s = c.before.before in
     let n = coefficients s in
     rw (
       ← in_y n,
       ← (order n).wide.ensures,
-      ← n.wide3.ensures,
-      ← s.wide4.ensures,
-      eq-eqb _ _ s.before.before.before.if1.true,
-      eq-eqb _ _ s.before.before.if2.true,
-      eq-eqb _ _ c.before.if3.true,
-      ne_eqb _ _ c.if4.false,
+      ← n.wide.ensures,
+      ← s.wide-then-b-order.ensures,
+      eq-eqb _ _ s.if-a-wide.true,
+      eq-eqb _ _ s.if-b-order.true,
+      eq-eqb _ _ c.if-c-wide.true,
+      ne_eqb _ _ c.if-y-in_y.false,
     )
 
-returns-3 : tie.Need-returns-3
+returns-else-c-wide : tie.Need-returns-else-c-wide
 unfolding lengths_right
-returns-3 c =
+returns-else-c-wide c =
     let s = c.before in
     let n = coefficients s in
     rw (
       ← in_y n,
       ← (order n).wide.ensures,
-      ← n.wide3.ensures,
-      ← s.wide4.ensures,
-      eq-eqb _ _ s.before.before.before.if1.true,
-      eq-eqb _ _ s.before.before.if2.true,
-      ne_eqb _ _ c.if3.false,
+      ← n.wide.ensures,
+      ← s.wide-then-b-order.ensures,
+      eq-eqb _ _ s.if-a-wide.true,
+      eq-eqb _ _ s.if-b-order.true,
+      ne_eqb _ _ c.if-c-wide.false,
     )
 
-returns-4 : tie.Need-returns-4
+returns-else-b-order : tie.Need-returns-else-b-order
 unfolding lengths_right
-returns-4 c =
+returns-else-b-order c =
     let n = c.before.before in
     rw (
       ← in_y n,
       ← (order n).wide.ensures,
-      ← n.wide3.ensures,
-      eq-eqb _ _ c.before.if1.true,
-      ne_eqb _ _ c.if2.false,
+      ← n.wide.ensures,
+      eq-eqb _ _ c.if-a-wide.true,
+      ne_eqb _ _ c.if-b-order.false,
     )
 
-returns-5 : tie.Need-returns-5
+returns-else-a-wide : tie.Need-returns-else-a-wide
 unfolding lengths_right
-returns-5 c =
+returns-else-a-wide c =
     let n = c.before in
     rw (
       ← in_y n,
       ← (order n).wide.ensures,
-      ← n.wide3.ensures,
-      ne_eqb _ _ c.if1.false,
+      ← n.wide.ensures,
+      ne_eqb _ _ c.if-a-wide.false,
     )
 
 pub lengths_fit_spec : {M : Type 1} → statement M
 lengths_fit_spec =
     tie.close
     (tie.spec
-    shared-slice-read-wide
-    wide-requires
-    shared-slice-read-length-of-y
-    shared-slice-read-length-of-y-2
-    length-of-y-requires
-    wide-requires-2
-    shared-slice-read-wide-2
+    bounds-words-0
+    wide-order-requires
+    bounds-words-0-2
+    bounds-words-2
+    length_of_y-requires
+    wide-in_y-requires
+    bounds-words-1
     wide-requires-3
-    shared-slice-read-wide-3
-    wide-requires-4
-    returns
-    returns-2
-    returns-3
-    returns-4
-    returns-5)
+    bounds-words-2-then-b-order
+    wide-requires-then-b-order
+    returns-then-y-in_y
+    returns-else-y-in_y
+    returns-else-c-wide
+    returns-else-b-order
+    returns-else-a-wide)

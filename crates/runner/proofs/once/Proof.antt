@@ -11,10 +11,10 @@ entry c = c.before.before.before.before.before.before.before.before.before.befor
 abbrev begun : tie.After-follow → tie.After-fresh
 begun c = c.before
 
-abbrev through : tie.After-known-told → tie.After-follow
+abbrev through : tie.In-Through → tie.After-follow
 through c = c.before.before.before.before.before.before.before.before.before
 
-abbrev halting : tie.After-known-told2 → tie.After-follow
+abbrev halting : tie.In-Halted → tie.After-follow
 halting c = c.before.before.before.before.before.before.before.before.before
 
 fresh-requires : tie.Need-fresh-requires
@@ -23,47 +23,47 @@ fresh-requires c κs = search rules
 follow-requires : tie.Need-follow-requires
 follow-requires c κs = search rules
 
-enum-known-z : tie.Need-enum-known-z
-enum-known-z c = search rules
+enum_known-z : tie.Need-enum_known-z
+enum_known-z c = search rules
 
-enum-known-number : tie.Need-enum-known-number
-enum-known-number c = search rules
+enum_known-number : tie.Need-enum_known-number
+enum_known-number c = search rules
 
-same_length : tie.Need-same-length
-same_length c = search rules
+shape_of-c-in-Through : tie.Need-shape_of-c-in-Through
+shape_of-c-in-Through c = search rules
 
-same-length-2 : tie.Need-same-length-2
-same-length-2 c = search rules
+shape_of-y-in-Through : tie.Need-shape_of-y-in-Through
+shape_of-y-in-Through c = search rules
 
-same-length-3 : tie.Need-same-length-3
-same-length-3 c = search rules
+shape_of-x-in-Through : tie.Need-shape_of-x-in-Through
+shape_of-x-in-Through c = search rules
 
-returns : tie.Need-returns
-returns c =
+returns-in-Through : tie.Need-returns-in-Through
+returns-in-Through c =
     let f = through c in
     let s = entry f in
     let a = s.args in
     let e = f.follow.ensures in
     once-through a.words.now a.a.now a.b.now a.limit a.c.now a.y.now a.x.now _ _ _ s.pre.1 s.pre.0.in_x _
-    (begun f).fresh.ensures f.follow.result e.0 e.1 _ c.before.z.given.1
+    (begun f).fresh.ensures f.follow.result e.0 e.1 _ c.z-1.given.1
 
-same-length-4 : tie.Need-same-length-4
-same-length-4 c = search rules
+shape_of-c-in-Halted : tie.Need-shape_of-c-in-Halted
+shape_of-c-in-Halted c = search rules
 
-same-length-5 : tie.Need-same-length-5
-same-length-5 c = search rules
+shape_of-y-in-Halted : tie.Need-shape_of-y-in-Halted
+shape_of-y-in-Halted c = search rules
 
-same-length-6 : tie.Need-same-length-6
-same-length-6 c = search rules
+shape_of-x-in-Halted : tie.Need-shape_of-x-in-Halted
+shape_of-x-in-Halted c = search rules
 
-returns-2 : tie.Need-returns-2
-returns-2 c =
+returns-in-Halted : tie.Need-returns-in-Halted
+returns-in-Halted c =
     let f = halting c in
     let s = entry f in
     let a = s.args in
     let e = f.follow.ensures in
     once-halted a.words.now a.a.now a.b.now a.limit a.c.now a.y.now a.x.now _ _ _ s.pre.1 s.pre.0.in_x _
-    (begun f).fresh.ensures f.follow.result e.0 e.1 _ _ _ _ c.before.number.given.1
+    (begun f).fresh.ensures f.follow.result e.0 e.1 _ _ _ _ c.number-1.given.1
 
 pub once_spec : {M : Type 1} → statement M
 once_spec =
@@ -71,13 +71,13 @@ once_spec =
     (tie.spec
     fresh-requires
     follow-requires
-    enum-known-z
-    enum-known-number
-    same_length
-    same-length-2
-    same-length-3
-    returns
-    same-length-4
-    same-length-5
-    same-length-6
-    returns-2)
+    enum_known-z
+    enum_known-number
+    shape_of-c-in-Through
+    shape_of-y-in-Through
+    shape_of-x-in-Through
+    returns-in-Through
+    shape_of-c-in-Halted
+    shape_of-y-in-Halted
+    shape_of-x-in-Halted
+    returns-in-Halted)

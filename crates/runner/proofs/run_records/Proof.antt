@@ -14,13 +14,13 @@ use Rattle.runner.proofs.run_records.Statement.{statement}
 use Rattle.runner.proofs.run_records.Tie as tie
 
 -- Places of the code: the entry, seen from where the records were followed; and that place, seen from where C is cleared, which is seen from the end.
-abbrev entry : tie.After-by-method → tie.Start
+abbrev entry : tie.After-by_method-outcome → tie.Start
 entry c = c.before.before.before.before.before.before.before.before.before.before
 
-abbrev stopped : tie.After-clear → tie.After-by-method
+abbrev stopped : tie.After-clear → tie.After-by_method-outcome
 stopped c = c.before.before.before.before.before.before.before.before.before.before
 
-abbrev cleared : tie.After-slice-known9 → tie.After-clear
+abbrev cleared : tie.After-slice_known-in-Stopped-3-1 → tie.After-clear
 cleared c = c.before.before.before.before.before.before.before.before.before.before
 
 -- the tag of a refusal by 16 or 17, and of the others
@@ -34,33 +34,33 @@ stops_not (Solved p q g k) e is = is
 stops_not (Stopped n k t m) e is = ⊎_elim (λ none. omega arith) (λ two. omega arith) e
 stops_not (Refused n d) e is = is
 
-by-method-requires : tie.Need-by-method-requires
-by-method-requires c κs = search rules
+by_method-outcome-requires : tie.Need-by_method-outcome-requires
+by_method-outcome-requires c κs = search rules
 
-enum_told : tie.Need-enum-told
-enum_told c = search rules
+enum_told-1 : tie.Need-enum_told-1
+enum_told-1 c = search rules
 
 clear-requires : tie.Need-clear-requires
 clear-requires c κs = search rules
 
-clear-requires-2 : tie.Need-clear-requires-2
-clear-requires-2 c κs = search rules
+clear-requires-in-Stopped : tie.Need-clear-requires-in-Stopped
+clear-requires-in-Stopped c κs = search rules
 
-clear-requires-3 : tie.Need-clear-requires-3
-clear-requires-3 c κs = search rules
+clear-requires-in-Stopped-2 : tie.Need-clear-requires-in-Stopped-2
+clear-requires-in-Stopped-2 c κs = search rules
 
-same_length : tie.Need-same-length
-same_length c = search rules
+shape_of-c-in-Stopped : tie.Need-shape_of-c-in-Stopped
+shape_of-c-in-Stopped c = search rules
 
-same-length-2 : tie.Need-same-length-2
-same-length-2 c = search rules
+shape_of-y-in-Stopped : tie.Need-shape_of-y-in-Stopped
+shape_of-y-in-Stopped c = search rules
 
-same-length-3 : tie.Need-same-length-3
-same-length-3 c = search rules
+shape_of-x-in-Stopped : tie.Need-shape_of-x-in-Stopped
+shape_of-x-in-Stopped c = search rules
 
-returns : tie.Need-returns
-returns c =
-    let f = (stopped (cleared c)).by-method in
+returns-in-Stopped : tie.Need-returns-in-Stopped
+returns-in-Stopped c =
+    let f = (stopped (cleared c)).by_method-outcome in
     let told = stops-told f.result (cleared c).before.before.before.match.keys1 in
     let a = (entry (stopped (cleared c))).args in
     let last = f.last.1.1.1.1 in
@@ -70,38 +70,38 @@ returns c =
       l.0,
       (
         (cleared c).clear.ensures ∙ l.1.0,
-        (c.before.before.before.before.before.before.clear2.ensures ∙ l.1.1.0, c.before.before.clear3.ensures ∙ l.1.1.1),
+        (c.clear-in-Stopped.ensures ∙ l.1.1.0, c.clear-in-Stopped-2.ensures ∙ l.1.1.1),
       ),
     )
 
-same-length-4 : tie.Need-same-length-4
-same-length-4 c = search rules
+shape_of-c-in_default : tie.Need-shape_of-c-in_default
+shape_of-c-in_default c = search rules
 
-same-length-5 : tie.Need-same-length-5
-same-length-5 c = search rules
+shape_of-y-in_default : tie.Need-shape_of-y-in_default
+shape_of-y-in_default c = search rules
 
-same-length-6 : tie.Need-same-length-6
-same-length-6 c = search rules
+shape_of-x-in_default : tie.Need-shape_of-x-in_default
+shape_of-x-in_default c = search rules
 
-returns-2 : tie.Need-returns-2
-returns-2 c =
-    let f = c.before.before.before.before.before.before.before.by-method in
-    leaves_final _ _ _ _ _ _ _ _ (stops_not f.result c.match.keys2) (done_not_refused _ _ _ _ _) f.ensures
+returns-in_default : tie.Need-returns-in_default
+returns-in_default c =
+    let f = c.by_method-outcome in
+    leaves_final _ _ _ _ _ _ _ _ (stops_not f.result c.in_default.keys2) (done_not_refused _ _ _ _ _) f.ensures
 
 pub run_records_spec : {M : Type 1} → statement M
 run_records_spec =
     tie.close
     (tie.spec
-    by-method-requires
-    enum_told
+    by_method-outcome-requires
+    enum_told-1
     clear-requires
-    clear-requires-2
-    clear-requires-3
-    same_length
-    same-length-2
-    same-length-3
-    returns
-    same-length-4
-    same-length-5
-    same-length-6
-    returns-2)
+    clear-requires-in-Stopped
+    clear-requires-in-Stopped-2
+    shape_of-c-in-Stopped
+    shape_of-y-in-Stopped
+    shape_of-x-in-Stopped
+    returns-in-Stopped
+    shape_of-c-in_default
+    shape_of-y-in_default
+    shape_of-x-in_default
+    returns-in_default)

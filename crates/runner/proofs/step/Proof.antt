@@ -6,68 +6,68 @@ use Rattle.runner.proofs.step.Statement.{statement}
 use Rattle.runner.proofs.step.Tie as tie
 
 -- Places of the code: the entry, seen from the two methods; and where each has made its step, seen from the end.
-abbrev sweeping : tie.Then1 → tie.Start
+abbrev sweeping : tie.Then-sweeps → tie.Start
 sweeping c = c.before.before.before.before.before.before
 
-abbrev crouting : tie.Else1 → tie.Start
+abbrev crouting : tie.Else-sweeps → tie.Start
 crouting c = c.before.before.before.before.before.before
 
-abbrev swept : tie.After-slice-known4 → tie.After-sweep-step
+abbrev swept : tie.After-slice_known-then-sweeps-1 → tie.After-sweep_step
 swept c = c.before.before
 
-abbrev stepped : tie.After-slice-known7 → tie.After-step
+abbrev stepped : tie.After-slice_known-else-sweeps-3-1 → tie.After-step
 stepped c = c.before.before.before.before.before.before
 
-sweep-step-requires : tie.Need-sweep-step-requires
-sweep-step-requires c κs =
+sweep_step-requires : tie.Need-sweep_step-requires
+sweep_step-requires c κs =
     let s = sweeping c.before in
     let a = s.args in
-    ready_as c.before.if1.true _ _ (length a.c.now) (length a.y.now) _ _ _ _ _ s.pre
+    ready_as c.if-sweeps.true _ _ (length a.c.now) (length a.y.now) _ _ _ _ _ s.pre
 
 step-requires : tie.Need-step-requires
 step-requires c κs =
     let other = c.before.before.before in
-    ready_as other.if1.false _ _ _ _ _ _ _ _ _ (crouting other).requires
+    ready_as other.if-sweeps.false _ _ _ _ _ _ _ _ _ (crouting other).requires
 
-same_length : tie.Need-same-length
-same_length c = search rules
+shape_of-x-then-sweeps : tie.Need-shape_of-x-then-sweeps
+shape_of-x-then-sweeps c = search rules
 
-returns : tie.Need-returns
-returns c =
+returns-then-sweeps : tie.Need-returns-then-sweeps
+returns-then-sweeps c =
     let call = swept c in
     let s = sweeping call.before.before in
     let a = s.args in
-    let e = call.sweep-step.ensures in
+    let e = call.sweep_step.ensures in
     sweep_gives a.a.now a.b.now a.limit a.c.now a.y.now a.x.now _ _ _ a.z a.kind a.p a.q _ a.sweeps
-    call.before.before.if1.taken e.0 e.1.0 e.1.1
+    call.if-sweeps.taken e.0 e.1.0 e.1.1
 
-same-length-2 : tie.Need-same-length-2
-same-length-2 c = search rules
+shape_of-c : tie.Need-shape_of-c
+shape_of-c c = search rules
 
-same-length-3 : tie.Need-same-length-3
-same-length-3 c = search rules
+shape_of-y : tie.Need-shape_of-y
+shape_of-y c = search rules
 
-same-length-4 : tie.Need-same-length-4
-same-length-4 c = search rules
+shape_of-x-else-sweeps : tie.Need-shape_of-x-else-sweeps
+shape_of-x-else-sweeps c = search rules
 
-returns-2 : tie.Need-returns-2
-returns-2 c =
+returns-else-sweeps : tie.Need-returns-else-sweeps
+returns-else-sweeps c =
     let call = stepped c in
     let other = call.before.before.before.before in
     let a = (crouting other).args in
     let e = call.step.ensures in
     crout_gives a.a.now a.b.now a.limit a.c.now a.y.now a.x.now _ _ _ a.z a.kind a.p a.q _ a.sweeps
-    other.if1.left e.0 e.1
+    other.if-sweeps.left e.0 e.1
 
 pub step_spec : {M : Type 1} → statement M
 step_spec =
     tie.close
     (tie.spec
-    sweep-step-requires
+    sweep_step-requires
     step-requires
-    same_length
-    returns
-    same-length-2
-    same-length-3
-    same-length-4
-    returns-2)
+    shape_of-x-then-sweeps
+    returns-then-sweeps
+    shape_of-c
+    shape_of-y
+    shape_of-x-else-sweeps
+    returns-else-sweeps)

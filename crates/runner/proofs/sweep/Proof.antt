@@ -13,27 +13,27 @@ use Rattle.runner.proofs.Sweeps.{Sweeping, sweeps_start, sweeps_end, sweep_begin
 use Rattle.runner.proofs.sweep.Statement.{statement}
 use Rattle.runner.proofs.sweep.Tie as tie
 
-abbrev invariant-loop : tie.invariant-loop
-invariant-loop words a b limit c₀ y₀ x₀ z₀ sweeps₀ c y x z sweeps = SameLengths c₀ y₀ x₀ c y x × Sweeping words a b limit c y x z sweeps
+abbrev invariant-loop-sweeps : tie.invariant-loop-sweeps
+invariant-loop-sweeps words a b limit c₀ y₀ x₀ z₀ sweeps₀ c y x z sweeps = SameLengths c₀ y₀ x₀ c y x × Sweeping words a b limit c y x z sweeps
 
-abbrev decreases-loop : tie.decreases-loop
-decreases-loop words a b limit c₀ y₀ x₀ z₀ sweeps₀ c y x z sweeps = 300 - sweeps
+abbrev decreases-loop-sweeps : tie.decreases-loop-sweeps
+decreases-loop-sweeps words a b limit c₀ y₀ x₀ z₀ sweeps₀ c y x z sweeps = 300 - sweeps
 
 -- Places of the code: the entry, seen from the loop's head; that head, and a turn of the loop, seen from where its sweep is made; and that place, seen from
 -- where its answer is told, by a refusal and by a state.
-abbrev entry : tie.At-loop invariant-loop decreases-loop → tie.Start invariant-loop decreases-loop
+abbrev entry : tie.At-loop-sweeps invariant-loop-sweeps decreases-loop-sweeps → tie.Start invariant-loop-sweeps decreases-loop-sweeps
 entry c = c.before.before.before.before.before.before.before.before.before.before.before.before
 
 abbrev Swept : Type 0
-Swept = tie.After-follow invariant-loop decreases-loop
+Swept = tie.After-follow invariant-loop-sweeps decreases-loop-sweeps
 
-abbrev turn : Swept → tie.In-loop invariant-loop decreases-loop
+abbrev turn : Swept → tie.In-loop-sweeps invariant-loop-sweeps decreases-loop-sweeps
 turn c = c.before.before.before.before
 
-abbrev halting : tie.After-known-told invariant-loop decreases-loop → Swept
+abbrev halting : tie.In-Halted invariant-loop-sweeps decreases-loop-sweeps → Swept
 halting c = c.before.before.before.before.before.before.before.before.before
 
-abbrev through : tie.After-known-told2 invariant-loop decreases-loop → Swept
+abbrev through : tie.In-Through invariant-loop-sweeps decreases-loop-sweeps → Swept
 through c = c.before.before.before.before.before.before.before.before.before
 
 -- C, Y and X after a sweep, as long as they were
@@ -50,132 +50,132 @@ same_sweep : (c : Swept) → let l = (turn c).before.loop in SameLengths l.c l.y
 same_sweep c = let kept = c.follow.auto.1.1.1.1 in record { of_c = kept.0; of_y = kept.1.0; of_x = kept.1.1.0 }
 
 -- and as they came
-same-entry : (c : tie.At-loop invariant-loop decreases-loop) → let a = (entry c).args in let l = c.loop in
+same-entry : (c : tie.At-loop-sweeps invariant-loop-sweeps decreases-loop-sweeps) → let a = (entry c).args in let l = c.loop-sweeps in
     SameLengths a.c.now a.y.now a.x.now l.c l.y l.x
 same-entry c =
-    let same = c.loop.invariant.0 in
-    record { of_c = same.of_c; of_y = same.of_y; of_x = same.of_x ∙ c.before.before.before.before.clear.auto.0 }
+    let same = c.loop-sweeps.invariant.0 in
+    record { of_c = same.of_c; of_y = same.of_y; of_x = same.of_x ∙ c.clear.auto.0 }
 
 same_after : (c : Swept) → let a = (entry (turn c).before).args in SameLengths a.c.now a.y.now a.x.now (after-c c) (after-y c) (after-x c)
 same_after c = same_lengths_trans (same-entry (turn c).before) (same_sweep c)
 
-clear-requires : tie.Need-clear-requires invariant-loop decreases-loop
+clear-requires : tie.Need-clear-requires invariant-loop-sweeps decreases-loop-sweeps
 clear-requires c κs = search rules
 
-loaded-requires : tie.Need-loaded-requires invariant-loop decreases-loop
-loaded-requires c κs = search rules
+loaded-z-requires : tie.Need-loaded-z-requires invariant-loop-sweeps decreases-loop-sweeps
+loaded-z-requires c κs = search rules
 
-loop-holds : tie.Need-loop-init invariant-loop decreases-loop
+loop-holds : tie.Need-loop-sweeps-init invariant-loop-sweeps decreases-loop-sweeps
 loop-holds c =
     let clear = c.before.before.before in
     let s = clear.before.before.before.before.before.before.before.before in
     let a = s.args in (
       record { of_c = refl; of_y = refl; of_x = refl },
-      sweeps_start a.c.now a.y.now a.x.now clear.clear.new.0 c.loaded.result s.requires.0 s.requires.1
-          clear.clear.ensures c.loaded.ensures,
+      sweeps_start a.c.now a.y.now a.x.now clear.clear.new.0 c.loaded-z.result s.requires.0 s.requires.1
+          clear.clear.ensures c.loaded-z.ensures,
     )
 
-follow-requires : tie.Need-follow-requires invariant-loop decreases-loop
+follow-requires : tie.Need-follow-requires invariant-loop-sweeps decreases-loop-sweeps
 follow-requires c κs =
     let t = c.before.before.before in
-    let s = t.before.loop.invariant.1 in
-    (s.fit, (s.method, sweep_begins s t.loop-test.true))
+    let s = t.loop-sweeps.invariant.1 in
+    (s.fit, (s.method, sweep_begins s t.loop-sweeps-test.true))
 
-enum-known-number : tie.Need-enum-known-number invariant-loop decreases-loop
-enum-known-number c = search rules
+enum_known-number : tie.Need-enum_known-number invariant-loop-sweeps decreases-loop-sweeps
+enum_known-number c = search rules
 
-same_length : tie.Need-same-length invariant-loop decreases-loop
-same_length c = (same_after (halting c)).of_c
+shape_of-c-in-Halted : tie.Need-shape_of-c-in-Halted invariant-loop-sweeps decreases-loop-sweeps
+shape_of-c-in-Halted c = (same_after (halting c)).of_c
 
-same-length-2 : tie.Need-same-length-2 invariant-loop decreases-loop
-same-length-2 c = (same_after (halting c)).of_y
+shape_of-y-in-Halted : tie.Need-shape_of-y-in-Halted invariant-loop-sweeps decreases-loop-sweeps
+shape_of-y-in-Halted c = (same_after (halting c)).of_y
 
-same-length-3 : tie.Need-same-length-3 invariant-loop decreases-loop
-same-length-3 c = (same_after (halting c)).of_x
+shape_of-x-in-Halted : tie.Need-shape_of-x-in-Halted invariant-loop-sweeps decreases-loop-sweeps
+shape_of-x-in-Halted c = (same_after (halting c)).of_x
 
-returns : tie.Need-returns invariant-loop decreases-loop
-returns c =
+returns-in-Halted : tie.Need-returns-in-Halted invariant-loop-sweeps decreases-loop-sweeps
+returns-in-Halted c =
     let f = halting c in
     let e = f.follow.ensures in
     sweep_halted (turn f).before.loop.inv.1 (turn f).loop-test.taken (same_sweep f) f.follow.result e.0 e.1 _ _ _ _
-    c.before.number.given.1
+    c.number-1.given.1
 
-enum-known-after : tie.Need-enum-known-after invariant-loop decreases-loop
-enum-known-after c = search rules
+enum_known-after : tie.Need-enum_known-after invariant-loop-sweeps decreases-loop-sweeps
+enum_known-after c = search rules
 
-add-sweeps : tie.Need-overflow-add-sweeps invariant-loop decreases-loop
-add-sweeps c = search rules
+overflow_add-sweeps : tie.Need-overflow_add-sweeps invariant-loop-sweeps decreases-loop-sweeps
+overflow_add-sweeps c = search rules
 
-same-length-4 : tie.Need-same-length-4 invariant-loop decreases-loop
-same-length-4 c = (same_after (through c.before.before)).of_c
+shape_of-c-then-not-z : tie.Need-shape_of-c-then-not-z invariant-loop-sweeps decreases-loop-sweeps
+shape_of-c-then-not-z c = (same_after (through c.before.before)).of_c
 
-same-length-5 : tie.Need-same-length-5 invariant-loop decreases-loop
-same-length-5 c = (same_after (through c.before.before)).of_y
+shape_of-y-then-not-z : tie.Need-shape_of-y-then-not-z invariant-loop-sweeps decreases-loop-sweeps
+shape_of-y-then-not-z c = (same_after (through c.before.before)).of_y
 
-same-length-6 : tie.Need-same-length-6 invariant-loop decreases-loop
-same-length-6 c = (same_after (through c.before.before)).of_x
+shape_of-x-then-not-z : tie.Need-shape_of-x-then-not-z invariant-loop-sweeps decreases-loop-sweeps
+shape_of-x-then-not-z c = (same_after (through c.before.before)).of_x
 
-returns-2 : tie.Need-returns-2 invariant-loop decreases-loop
-returns-2 c =
+returns-then-not-z : tie.Need-returns-then-not-z invariant-loop-sweeps decreases-loop-sweeps
+returns-then-not-z c =
     let t = c.before.before in
     let f = through t in
     let e = f.follow.ensures in
     rw add-one (sweep_settles (turn f).before.loop.inv.1 (turn f).loop-test.taken (same_sweep f) f.follow.result e.0 e.1 _
-    t.before.after.given.1 (not-true _ c.if1.true))
+    t.after-1.given.1 (not-true _ c.if-not-z.true))
 
-again-requires : tie.Need-again-requires invariant-loop decreases-loop
-again-requires c κs = search rules
+again-z-requires : tie.Need-again-z-requires invariant-loop-sweeps decreases-loop-sweeps
+again-z-requires c κs = search rules
 
-loop-less : tie.Need-loop-smaller invariant-loop decreases-loop
-loop-less c = omega (arith, (turn (through c.before.before.before)).loop-test.taken)
+loop-less : tie.Need-loop-sweeps-smaller invariant-loop-sweeps decreases-loop-sweeps
+loop-less c = omega (arith, (turn (through c.before.before.before)).loop-sweeps-test.taken)
 
-loop-again : tie.Need-loop-preserved invariant-loop decreases-loop
+loop-again : tie.Need-loop-sweeps-preserved invariant-loop-sweeps decreases-loop-sweeps
 loop-again c =
     let t = c.before.before.before in
     let f = through t in
     let e = f.follow.ensures in (
       same_lengths_trans (turn f).before.loop.inv.0 (same_sweep f),
-      rw (add-one, c.again.ensures) (sweep_again (turn f).before.loop.inv.1 (turn f).loop-test.taken (same_sweep f) f.follow.result e.0 e.1 _
-          t.before.after.given.1 (not-false _ c.before.if1.false)),
+      rw (add-one, c.again-z.ensures) (sweep_again (turn f).before.loop.inv.1 (turn f).loop-test.taken (same_sweep f) f.follow.result e.0 e.1 _
+          t.after-1.given.1 (not-false _ c.if-not-z.false)),
     )
 
-same-length-7 : tie.Need-same-length-7 invariant-loop decreases-loop
-same-length-7 c = (same-entry c.before).of_c
+shape_of-c : tie.Need-shape_of-c invariant-loop-sweeps decreases-loop-sweeps
+shape_of-c c = (same-entry c.before).of_c
 
-same-length-8 : tie.Need-same-length-8 invariant-loop decreases-loop
-same-length-8 c = (same-entry c.before).of_y
+shape_of-y : tie.Need-shape_of-y invariant-loop-sweeps decreases-loop-sweeps
+shape_of-y c = (same-entry c.before).of_y
 
-same-length-9 : tie.Need-same-length-9 invariant-loop decreases-loop
-same-length-9 c = (same-entry c.before).of_x
+shape_of-x : tie.Need-shape_of-x invariant-loop-sweeps decreases-loop-sweeps
+shape_of-x c = (same-entry c.before).of_x
 
-returns-3 : tie.Need-returns-3 invariant-loop decreases-loop
-returns-3 c = sweeps_end c.before.loop.invariant.1 (omega arith)
+returns-3 : tie.Need-returns invariant-loop-sweeps decreases-loop-sweeps
+returns-3 c = sweeps_end c.loop-sweeps.invariant.1 (omega arith)
 
 pub sweep_spec : {M : Type 1} → statement M
 sweep_spec =
     tie.close
     (tie.spec
-    invariant-loop
-    decreases-loop
+    invariant-loop-sweeps
+    decreases-loop-sweeps
     clear-requires
-    loaded-requires
+    loaded-z-requires
     loop-holds
     follow-requires
-    enum-known-number
-    same_length
-    same-length-2
-    same-length-3
-    returns
-    enum-known-after
-    add-sweeps
-    same-length-4
-    same-length-5
-    same-length-6
-    returns-2
-    again-requires
+    enum_known-number
+    shape_of-c-in-Halted
+    shape_of-y-in-Halted
+    shape_of-x-in-Halted
+    returns-in-Halted
+    enum_known-after
+    overflow_add-sweeps
+    shape_of-c-then-not-z
+    shape_of-y-then-not-z
+    shape_of-x-then-not-z
+    returns-then-not-z
+    again-z-requires
     loop-less
     loop-again
-    same-length-7
-    same-length-8
-    same-length-9
+    shape_of-c
+    shape_of-y
+    shape_of-x
     returns-3)

@@ -14,62 +14,62 @@ use Rattle.sides.proofs.close_in_rows.Statement.{statement}
 use Rattle.sides.proofs.close_in_rows.Tie as tie
 
 -- the entry, seen from where the table is known
-abbrev start : tie.After-struct-known → tie.Start
+abbrev start : tie.After-struct_known-1 → tie.Start
 start c = c.before.before.before.before
 
 -- the open target may be closed
-free-y : (c : tie.Then1) → (start c.before).args.z.y < (start c.before).args.order
+free-y : (c : tie.Then-z-eq2) → (start c.before).args.z.y < (start c.before).args.order
 free-y c =
     let s = start c.before in
-    subst (FreeIn 0 s.args.order s.args.order s.args.z) (ap table_of c.if1.true) (s.pre.free 0)
+    subst (FreeIn 0 s.args.order s.args.order s.args.z) (ap table_of c.if-z-eq2.true) (s.pre.free 0)
 
-table-x : (c : tie.Else1) → table_of (start c.before).args.z.table ≡ X
-table-x c = is_x _ (λ e. (start c.before).requires.in_rows (ap table_of e)) c.if1.false
+table-x : (c : tie.Else-z-eq2) → table_of (start c.before).args.z.table ≡ X
+table-x c = is_x _ (λ e. (start c.before).requires.in_rows (ap table_of e)) c.if-z-eq2.false
 
-free-x : (c : tie.Else1) (lc : ℕ) → let a = (start c.before).args in FreeIn lc a.order a.order a.z X
+free-x : (c : tie.Else-z-eq2) (lc : ℕ) → let a = (start c.before).args in FreeIn lc a.order a.order a.z X
 free-x c lc =
     let s = start c.before in
     subst (FreeIn lc s.args.order s.args.order s.args.z) (table-x c) (s.pre.free lc)
 
-close-each-requires : tie.Need-close-each-requires
-close-each-requires c κs =
+close_each-requires : tie.Need-close_each-requires
+close_each-requires c κs =
     let pre = (start c.before.before).requires in
     ((pre.few, pre.in_running), record { order = pre.order; within = free-y c.before; length = pre.in_y })
 
-add-z : tie.Need-overflow-add-z
-add-z c = omega (arith, free-y c.before.before.before.before)
+overflow_add-z : tie.Need-overflow_add-z
+overflow_add-z c = omega (arith, free-y c.before.before.before.before)
 
-add-closed : tie.Need-overflow-add-closed
-add-closed c = omega (arith, free-x c.before 0)
+overflow_add-closed : tie.Need-overflow_add-closed
+overflow_add-closed c = omega (arith, free-x c.before 0)
 
-sub-close-each : tie.Need-overflow-sub-close-each
-sub-close-each c = omega (arith, free-x c.before 0)
+overflow_sub-order : tie.Need-overflow_sub-order
+overflow_sub-order c = omega (arith, free-x c.before 0)
 
-close-each-requires-2 : tie.Need-close-each-requires-2
-close-each-requires-2 c κs =
+close_each-requires-else-z-eq2 : tie.Need-close_each-requires-else-z-eq2
+close_each-requires-else-z-eq2 c κs =
     let pre = (start c.before.before.before).requires in
     ((pre.few, pre.in_running), record { order = pre.order; within = omega (arith, free-x c.before.before 0); length = pre.in_x })
 
-same_length : tie.Need-same-length
-same_length c = search rules
+shape_of-y : tie.Need-shape_of-y
+shape_of-y c = search rules
 
-returns : tie.Need-returns
-returns c =
+returns-then-z-eq2 : tie.Need-returns-then-z-eq2
+returns-then-z-eq2 c =
     let call = c.before.before in
     let s = start call.before.before.before in
     let a = s.args in
     let free = free-y call.before.before in (
       λ r l cell h is. closes-y a.z cell l (part a.order a.y.now r) (part a.order a.x.now r) s.pre.in_rows _
-          (ap table_of call.before.before.if1.true) (omega (arith, free, part_length a.order a.count a.y.now r s.pre.in_y h))
-          (call.close-each.ensures r h ∙ ap (set (part a.order a.y.now r) a.z.y) (sym is)),
+          (ap table_of call.if-z-eq2.true) (omega (arith, free, part_length a.order a.count a.y.now r s.pre.in_y h))
+          (call.close_each.ensures r h ∙ ap (set (part a.order a.y.now r) a.z.y) (sym is)),
       λ lc sound. record { named = sound.named; in_c = sound.in_c; in_y = omega (arith, free); in_x = sound.in_x },
     )
 
-same-length-2 : tie.Need-same-length-2
-same-length-2 c = search rules
+shape_of-x : tie.Need-shape_of-x
+shape_of-x c = search rules
 
-returns-2 : tie.Need-returns-2
-returns-2 c =
+returns-else-z-eq2 : tie.Need-returns-else-z-eq2
+returns-else-z-eq2 c =
     let call = c.before.before in
     let s = start call.before.before.before.before in
     let a = s.args in
@@ -80,7 +80,7 @@ returns-2 c =
           let long = part_length a.order a.count a.x.now r s.pre.in_x h in
           closes-x a.z cell l y x s.pre.in_rows _
           (table-x call.before.before.before) (rw long (free (length l)))
-          (call.close-each2.ensures r h ∙ ap (set x (a.order - (a.z.x + 1))) (sym is) ∙ rw long),
+          (call.close_each-else-z-eq2.ensures r h ∙ ap (set x (a.order - (a.z.x + 1))) (sym is) ∙ rw long),
       λ lc sound. record { named = sound.named; in_c = sound.in_c; in_y = sound.in_y; in_x = omega (arith, free 0) },
     )
 
@@ -88,12 +88,12 @@ pub close_in_rows_spec : {M : Type 1} → statement M
 close_in_rows_spec =
     tie.close
     (tie.spec
-    close-each-requires
-    add-z
-    add-closed
-    sub-close-each
-    close-each-requires-2
-    same_length
-    returns
-    same-length-2
-    returns-2)
+    close_each-requires
+    overflow_add-z
+    overflow_add-closed
+    overflow_sub-order
+    close_each-requires-else-z-eq2
+    shape_of-y
+    returns-then-z-eq2
+    shape_of-x
+    returns-else-z-eq2)

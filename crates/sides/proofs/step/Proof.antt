@@ -13,57 +13,57 @@ use Rattle.sides.proofs.step.Statement.{statement}
 use Rattle.sides.proofs.step.Tie as tie
 
 -- Places of the code: the entry, seen from where the test's ways meet; and the two calls, seen from the end.
-abbrev start : tie.Joined1 → tie.Start
+abbrev start : tie.Joined-kind-eq1 → tie.Start
 start c = c.before.before.before.before.before.before.before.before
 
-abbrev called-in-c : tie.After-slice-known8 → tie.After-step-in-c
+abbrev called-in-c : tie.After-slice_known-then-z-eq1-3-1 → tie.After-step_in_c
 called-in-c c = c.before.before.before.before.before.before
 
-abbrev called-in-rows : tie.After-slice-known12 → tie.After-step-in-rows
+abbrev called-in-rows : tie.After-slice_known-else-z-eq1-4-1 → tie.After-step_in_rows
 called-in-rows c = c.before.before.before.before.before.before.before.before
 
 -- where the test passed the record works in C
-in_c : (c : tie.Then3) → let a = (start c.before).args in works_in (kind_of a.kind) (table_of a.z.table) ≡ C
+in_c : (c : tie.Then-z-eq1) → let a = (start c.before).args in works_in (kind_of a.kind) (table_of a.z.table) ≡ C
 in_c c =
     let s = start c.before in
     ⊎_elim (λ w. opens-c _ _ w.0.taken)
     (⊎_elim
-    (λ w. past_three _ _ s.pre.ready.own w.1.taken ∙ ap table_of (eqb-true s.args.z.table 1 (sym w.3 ∙ c.if3.true)))
-    (λ w. absurd (omega (arith, w.1.left, ltb-true 3 s.args.kind (sym w.2 ∙ c.if3.true)))))
-    c.before.if1.branch
+    (λ w. past_three _ _ s.pre.ready.own w.1.taken ∙ ap table_of (eqb-true s.args.z.table 1 (sym w.3 ∙ c.if-z-eq1.true)))
+    (λ w. absurd (omega (arith, w.1.left, ltb-true 3 s.args.kind (sym w.2 ∙ c.if-z-eq1.true)))))
+    c.if-kind-eq1.branch
 
 -- and elsewhere in Y or X
-in_rows : (c : tie.Else3) → let a = (start c.before).args in works_in (kind_of a.kind) (table_of a.z.table) ≡ C → ⊥
+in_rows : (c : tie.Else-z-eq1) → let a = (start c.before).args in works_in (kind_of a.kind) (table_of a.z.table) ≡ C → ⊥
 in_rows c e =
     let s = start c.before in
-    ⊎_elim (λ w. eqb-false _ 1 (sym w.1 ∙ c.if3.false) w.0.taken)
+    ⊎_elim (λ w. eqb-false _ 1 (sym w.1 ∙ c.if-z-eq1.false) w.0.taken)
     (⊎_elim
-    (λ w. eqb-false _ 1 (sym w.3 ∙ c.if3.false)
+    (λ w. eqb-false _ 1 (sym w.3 ∙ c.if-z-eq1.false)
     (sym s.pre.ready.sound.named ∙ ap number_of (sym (past_three _ _ s.pre.ready.own w.1.taken) ∙ e)))
     (λ w. opens_row _ _ s.pre.ready.own w.0.left w.1.left e))
-    c.before.if1.branch
+    c.if-kind-eq1.branch
 
-step-in-c-requires : tie.Need-step-in-c-requires
-step-in-c-requires c κs =
+step_in_c-requires : tie.Need-step_in_c-requires
+step_in_c-requires c κs =
     let meet = c.before.before.before in
     (ready_in_c (start meet.before).requires (in_c meet), (start meet.before).requires.room)
 
-step-in-rows-requires : tie.Need-step-in-rows-requires
-step-in-rows-requires c κs =
+step_in_rows-requires : tie.Need-step_in_rows-requires
+step_in_rows-requires c κs =
     let meet = c.before.before.before.before.before in
-    ready_in_rows (start meet.before).requires (in_rows meet)
+    ready_in_rows (start meet).requires (in_rows meet)
 
-same_length : tie.Need-same-length
-same_length c = search rules
+shape_of-c-then-z-eq1 : tie.Need-shape_of-c-then-z-eq1
+shape_of-c-then-z-eq1 c = search rules
 
-same-length-2 : tie.Need-same-length-2
-same-length-2 c = search rules
+shape_of-running-then-z-eq1 : tie.Need-shape_of-running-then-z-eq1
+shape_of-running-then-z-eq1 c = search rules
 
-same-length-3 : tie.Need-same-length-3
-same-length-3 c = search rules
+shape_of-out-then-z-eq1 : tie.Need-shape_of-out-then-z-eq1
+shape_of-out-then-z-eq1 c = search rules
 
-returns : tie.Need-returns
-returns c =
+returns-then-z-eq1 : tie.Need-returns-then-z-eq1
+returns-then-z-eq1 c =
     let call = (called-in-c c).step-in-c.ensures in
     let s = start (called-in-c c).before.before.before.before.before in
     let order = s.args.order in (
@@ -71,23 +71,23 @@ returns c =
       (sound-in-c s.pre.ready.sound call.1.0, call.1.1),
     )
 
-same-length-4 : tie.Need-same-length-4
-same-length-4 c = search rules
+shape_of-c-else-z-eq1 : tie.Need-shape_of-c-else-z-eq1
+shape_of-c-else-z-eq1 c = search rules
 
-same-length-5 : tie.Need-same-length-5
-same-length-5 c = search rules
+shape_of-y : tie.Need-shape_of-y
+shape_of-y c = search rules
 
-same-length-6 : tie.Need-same-length-6
-same-length-6 c = search rules
+shape_of-x : tie.Need-shape_of-x
+shape_of-x c = search rules
 
-same-length-7 : tie.Need-same-length-7
-same-length-7 c = search rules
+shape_of-running-else-z-eq1 : tie.Need-shape_of-running-else-z-eq1
+shape_of-running-else-z-eq1 c = search rules
 
-same-length-8 : tie.Need-same-length-8
-same-length-8 c = search rules
+shape_of-out-else-z-eq1 : tie.Need-shape_of-out-else-z-eq1
+shape_of-out-else-z-eq1 c = search rules
 
-returns-2 : tie.Need-returns-2
-returns-2 c =
+returns-else-z-eq1 : tie.Need-returns-else-z-eq1
+returns-else-z-eq1 c =
     let call = (called-in-rows c).step-in-rows.ensures in
     (call.0 _ _, call.1)
 
@@ -95,15 +95,15 @@ pub step_spec : {M : Type 1} → statement M
 step_spec =
     tie.close
     (tie.spec
-    step-in-c-requires
-    step-in-rows-requires
-    same_length
-    same-length-2
-    same-length-3
-    returns
-    same-length-4
-    same-length-5
-    same-length-6
-    same-length-7
-    same-length-8
-    returns-2)
+    step_in_c-requires
+    step_in_rows-requires
+    shape_of-c-then-z-eq1
+    shape_of-running-then-z-eq1
+    shape_of-out-then-z-eq1
+    returns-then-z-eq1
+    shape_of-c-else-z-eq1
+    shape_of-y
+    shape_of-x
+    shape_of-running-else-z-eq1
+    shape_of-out-else-z-eq1
+    returns-else-z-eq1)

@@ -10,17 +10,17 @@ use Rattle.slots.proofs.batch_products.Tie as tie
 square : (c : tie.Start) → c.args.down * c.args.right ≤ 360000
 square c = mul-le-mul {n₂ = 600} {m₂ = 600} c.requires.0 c.requires.1
 
-mul-result : tie.Need-overflow-mul-result
-mul-result c = omega (arith, square c)
+overflow_mul-result : tie.Need-overflow_mul-result
+overflow_mul-result c = omega (arith, square c)
 
-add-result : tie.Need-overflow-add-result
-add-result c = omega (arith, square c)
+overflow_add-result : tie.Need-overflow_add-result
+overflow_add-result c = omega (arith, square c)
 
-add-result-2 : tie.Need-overflow-add-result-2
-add-result-2 c = omega (arith, square c)
+overflow_add-result-2 : tie.Need-overflow_add-result-2
+overflow_add-result-2 c = omega (arith, square c)
 
 returns : tie.Need-returns
 returns c = search rules
 
-pub batch-products_spec : {M : Type 1} → statement M
-batch-products_spec = tie.close (tie.spec mul-result add-result add-result-2 returns)
+pub batch_products_spec : {M : Type 1} → statement M
+batch_products_spec = tie.close (tie.spec overflow_mul-result overflow_add-result overflow_add-result-2 returns)

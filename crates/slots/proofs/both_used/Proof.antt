@@ -4,25 +4,25 @@ use borrow.Author.Rules.{rules}
 use Rattle.slots.proofs.both_used.Statement.{statement}
 use Rattle.slots.proofs.both_used.Tie as tie
 
-mul-if1 : tie.Need-overflow-mul-if1
-mul-if1 c = search rules
+offset_bounds-work-low : tie.Need-offset_bounds-work-low
+offset_bounds-work-low c = search rules
 
-shared-slice-read-if1 : tie.Need-shared-slice-read-if1
-shared-slice-read-if1 c = search rules
+bounds-work-low : tie.Need-bounds-work-low
+bounds-work-low c = search rules
 
-mul-result : tie.Need-overflow-mul-result
-mul-result c = search rules
+offset_bounds-work-high : tie.Need-offset_bounds-work-high
+offset_bounds-work-high c = search rules
 
-shared-slice-read-result : tie.Need-shared-slice-read-result
-shared-slice-read-result c = search rules
+bounds-work-high : tie.Need-bounds-work-high
+bounds-work-high c = search rules
 
-returns : tie.Need-returns
-returns c = rw (lt-ltb 0 _ c.before.if1.true)
+returns-then-work-low-gt0 : tie.Need-returns-then-work-low-gt0
+returns-then-work-low-gt0 c = rw (lt-ltb 0 _ c.if-work-low-gt0.true)
 
-returns-2 : tie.Need-returns-2
-returns-2 c = rw (le-ltb 0 _ c.if1.false)
+returns-else-work-low-gt0 : tie.Need-returns-else-work-low-gt0
+returns-else-work-low-gt0 c = rw (le-ltb 0 _ c.if-work-low-gt0.false)
 
 pub both_used_spec : {M : Type 1} → statement M
 both_used_spec =
     tie.close
-    (tie.spec mul-if1 shared-slice-read-if1 mul-result shared-slice-read-result returns returns-2)
+    (tie.spec offset_bounds-work-low bounds-work-low offset_bounds-work-high bounds-work-high returns-then-work-low-gt0 returns-else-work-low-gt0)

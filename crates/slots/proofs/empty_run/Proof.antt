@@ -10,64 +10,64 @@ use Rattle.slots.proofs.Along.{run_more}
 use Rattle.slots.proofs.empty_run.Statement.{statement}
 use Rattle.slots.proofs.empty_run.Tie as tie
 
-abbrev invariant-loop : tie.invariant-loop
-invariant-loop n work rows columns m across t done k₀ index₀ k index = (t ≤ k) × (index ≡ done + (k - t)) × EmptyRun n across m t done work rows columns (k - t)
+abbrev invariant-loop-k : tie.invariant-loop-k
+invariant-loop-k n work rows columns m across t done k₀ index₀ k index = (t ≤ k) × (index ≡ done + (k - t)) × EmptyRun n across m t done work rows columns (k - t)
 
-abbrev decreases-loop : tie.decreases-loop
-decreases-loop n work rows columns m across t done k₀ index₀ k index = suc n - k
+abbrev decreases-loop-k : tie.decreases-loop-k
+decreases-loop-k n work rows columns m across t done k₀ index₀ k index = suc n - k
 
 -- a turn's place is empty, and so there
-abbrev entry : tie.At-loop invariant-loop decreases-loop → tie.Start invariant-loop decreases-loop
+abbrev entry : tie.At-loop-k invariant-loop-k decreases-loop-k → tie.Start invariant-loop-k decreases-loop-k
 entry c = c.before.before.before.before.before
 
-inside : (c : tie.Then1 invariant-loop decreases-loop) → c.before.before.loop.k ≤ (entry c.before.before).args.n
-inside c = leb-true _ _ ((and-eq-true_iff _ _).0 (sym c.before.is-empty.ensures ∙ c.if1.true)).0
+inside : (c : tie.In-loop-k invariant-loop-k decreases-loop-k) → c.loop-k.k ≤ (entry c.before.before).args.n
+inside c = leb-true _ _ ((and-eq-true_iff _ _).0 (sym c.is_empty.ensures ∙ c.loop-k-test.true)).0
 
-wide-requires : tie.Need-wide-requires invariant-loop decreases-loop
-wide-requires c κs = search rules
+wide-index-requires : tie.Need-wide-index-requires invariant-loop-k decreases-loop-k
+wide-index-requires c κs = search rules
 
-loop-holds : tie.Need-loop-init invariant-loop decreases-loop
+loop-holds : tie.Need-loop-k-init invariant-loop-k decreases-loop-k
 loop-holds c = (omega arith, omega arith, record { inside = omega arith; empty = λ a h. absurd (omega arith) })
 
-is-empty-requires : tie.Need-is-empty-requires invariant-loop decreases-loop
-is-empty-requires c κs = let p = (entry c).requires in (p.2, p.3, λ there. omega (arith, p.4, c.loop.invariant))
+is_empty-requires : tie.Need-is_empty-requires invariant-loop-k decreases-loop-k
+is_empty-requires c κs = let p = (entry c).requires in (p.2, p.3, λ there. omega (arith, p.4, c.loop-k.invariant))
 
-add-k : tie.Need-overflow-add-k invariant-loop decreases-loop
-add-k c = omega (arith, inside c)
+overflow_add-k : tie.Need-overflow_add-k invariant-loop-k decreases-loop-k
+overflow_add-k c = omega (arith, inside c)
 
-add-index : tie.Need-overflow-add-index invariant-loop decreases-loop
-add-index c = omega (arith, inside c)
+overflow_add-index : tie.Need-overflow_add-index invariant-loop-k decreases-loop-k
+overflow_add-index c = omega (arith, inside c)
 
-loop-less : tie.Need-loop-smaller invariant-loop decreases-loop
+loop-less : tie.Need-loop-k-smaller invariant-loop-k decreases-loop-k
 loop-less c = omega (arith, inside c)
 
-loop-again : tie.Need-loop-preserved invariant-loop decreases-loop
+loop-again : tie.Need-loop-k-preserved invariant-loop-k decreases-loop-k
 loop-again c =
-    let l = c.before.before.loop in
+    let l = c.loop-k in
     let one_more : l.k + 1 - (entry c.before.before).args.t ≡ suc (l.k - (entry c.before.before).args.t) = omega (arith, l.invariant.0) in (
       omega arith,
       omega (arith, l.invariant),
-      rw one_more (run_more _ l.k l.index l.invariant.2 (omega (arith, l.invariant.0)) l.invariant.1 (sym c.before.is-empty.ensures ∙ c.if1.true)),
+      rw one_more (run_more _ l.k l.index l.invariant.2 (omega (arith, l.invariant.0)) l.invariant.1 (sym c.is_empty.ensures ∙ c.loop-k-test.true)),
     )
 
-sub-result : tie.Need-overflow-sub-result invariant-loop decreases-loop
-sub-result c = c.before.before.loop.invariant.0
+overflow_sub-result : tie.Need-overflow_sub-result invariant-loop-k decreases-loop-k
+overflow_sub-result c = c.loop-k.invariant.0
 
-returns : tie.Need-returns invariant-loop decreases-loop
-returns c = c.before.before.loop.invariant.2
+returns : tie.Need-returns invariant-loop-k decreases-loop-k
+returns c = c.loop-k.invariant.2
 
 pub empty_run_spec : {M : Type 1} → statement M
 empty_run_spec =
     tie.close
     (tie.spec
-    invariant-loop
-    decreases-loop
-    wide-requires
+    invariant-loop-k
+    decreases-loop-k
+    wide-index-requires
     loop-holds
-    is-empty-requires
-    add-k
-    add-index
+    is_empty-requires
+    overflow_add-k
+    overflow_add-index
     loop-less
     loop-again
-    sub-result
+    overflow_sub-result
     returns)

@@ -17,99 +17,99 @@ use Rattle.slots.proofs.Pass.{Passing, ColumnDone, RowDone, noted-none, pass_sta
 use Rattle.slots.proofs.fill.Statement.{statement}
 use Rattle.slots.proofs.fill.Tie as tie
 
-abbrev invariant-loop : tie.invariant-loop
-invariant-loop n work₀ rows₀ columns₀ walk₀ products₀ above₀ missing₀ m₀ work rows columns walk products above missing m =
+abbrev invariant-loop-m : tie.invariant-loop-m
+invariant-loop-m n work₀ rows₀ columns₀ walk₀ products₀ above₀ missing₀ m₀ work rows columns walk products above missing m =
     (L : Plan) → Marks n L 0 work₀ → Passing n L work₀ m walk products above missing work rows columns
 
-abbrev decreases-loop : tie.decreases-loop
-decreases-loop n work₀ rows₀ columns₀ walk₀ products₀ above₀ missing₀ m₀ work rows columns walk products above missing m = suc n - m
+abbrev decreases-loop-m : tie.decreases-loop-m
+decreases-loop-m n work₀ rows₀ columns₀ walk₀ products₀ above₀ missing₀ m₀ work rows columns walk products above missing m = suc n - m
 
 -- Places of the code: a turn and the entry before it; where the turn's column is done, its pivot is read and its slices are lent again; where its row is done
 -- too; and where the slots below the pivot are known.
-abbrev start : tie.At-loop invariant-loop decreases-loop → tie.Start invariant-loop decreases-loop
+abbrev start : tie.At-loop-m invariant-loop-m decreases-loop-m → tie.Start invariant-loop-m decreases-loop-m
 start c = c.before.before.before.before
 
-abbrev entry : tie.In-loop invariant-loop decreases-loop → tie.Start invariant-loop decreases-loop
+abbrev entry : tie.In-loop-m invariant-loop-m decreases-loop-m → tie.Start invariant-loop-m decreases-loop-m
 entry c = start c.before
 
 abbrev Down : Type 0
-Down = tie.After-fill-line invariant-loop decreases-loop
+Down = tie.After-fill_line-walk invariant-loop-m decreases-loop-m
 
-abbrev turn : Down → tie.In-loop invariant-loop decreases-loop
+abbrev turn : Down → tie.In-loop-m invariant-loop-m decreases-loop-m
 turn c = c.before.before.before.before.before
 
-abbrev read : tie.After-slice-known6 invariant-loop decreases-loop → Down
+abbrev read : tie.After-slice_known-in-loop-m-3-1 invariant-loop-m decreases-loop-m → Down
 read c = c.before.before.before.before.before.before
 
 abbrev Right : Type 0
-Right = tie.After-fill-line2 invariant-loop decreases-loop
+Right = tie.After-fill_line-walk-in-loop-m invariant-loop-m decreases-loop-m
 
-abbrev lent : tie.After-fill-line-arg6 invariant-loop decreases-loop → Down
+abbrev lent : tie.After-fill_line-arg-in-loop-m-5-1 invariant-loop-m decreases-loop-m → Down
 lent c = c.before.before.before.before.before.before.before.before.before.before
 
 abbrev down : Right → Down
 down c = lent c.before
 
 abbrev Paired : Type 0
-Paired = tie.After-larger invariant-loop decreases-loop
+Paired = tie.After-larger invariant-loop-m decreases-loop-m
 
 abbrev right : Paired → Right
 right c = c.before.before.before.before.before.before.before
 
 -- an order, and work numbers for its places, which mark some plan
-sized : (c : tie.Start invariant-loop decreases-loop) → Sized c.args.n c.args.work.now
+sized : (c : tie.Start invariant-loop-m decreases-loop-m) → Sized c.args.n c.args.work.now
 sized c = let range = within-range _ 600 c.requires.0 in record { low = range.0; high = range.1; room = c.requires.1.0 }
 
-plan : (c : tie.Start invariant-loop decreases-loop) → SomePlan c.args.n c.args.work.now
+plan : (c : tie.Start invariant-loop-m decreases-loop-m) → SomePlan c.args.n c.args.work.now
 plan c = some-plan c.args.n c.args.work.now
 
-abbrev Marking : tie.In-loop invariant-loop decreases-loop → Plan → Type 0
+abbrev Marking : tie.In-loop-m invariant-loop-m decreases-loop-m → Plan → Type 0
 Marking c L = Marks (entry c).args.n L 0 (entry c).args.work.now
 
 -- in a turn there is a batch m
-in_order : (c : tie.In-loop invariant-loop decreases-loop) → c.before.loop.m ≤ (entry c).args.n
-in_order c = omega (arith, c.loop-test.true)
+in_order : (c : tie.In-loop-m invariant-loop-m decreases-loop-m) → c.loop-m.m ≤ (entry c).args.n
+in_order c = omega (arith, c.loop-m-test.true)
 
-loop-holds : tie.Need-loop-init invariant-loop decreases-loop
-loop-holds c = λ L marked. let notes = c.before.before.before.requires.1.1 in pass_start marked notes.0 notes.1
+loop-holds : tie.Need-loop-m-init invariant-loop-m decreases-loop-m
+loop-holds c = λ L marked. let notes = c.requires.1.1 in pass_start marked notes.0 notes.1
 
-wide-requires : tie.Need-wide-requires invariant-loop decreases-loop
-wide-requires c κs = search rules
+wide-pivot-requires : tie.Need-wide-pivot-requires invariant-loop-m decreases-loop-m
+wide-pivot-requires c κs = search rules
 
-fill-line-requires : tie.Need-fill-line-requires invariant-loop decreases-loop
-fill-line-requires c κs =
+fill_line-walk-requires : tie.Need-fill_line-walk-requires invariant-loop-m decreases-loop-m
+fill_line-walk-requires c κs =
     let t = c.before.before.before.before in
     let some = plan (entry t) in
-    let l = t.before.loop.invariant some.plan some.marked in
+    let l = t.loop-m.invariant some.plan some.marked in
     ((sized_again (sized (entry t)) l.size, l.from, in_order t), record { plan = some.plan; reached = l.reached })
 
 -- after a batch's column
-column : (c : Down) (L : Plan) → Marking (turn c) L → let l = (turn c).before.loop in let r = c.fill-line.new.1 in
-    ColumnDone (entry (turn c)).args.n L l.m l.walk c.fill-line.result r.0 r.1.0 r.1.1.0
+column : (c : Down) (L : Plan) → Marking (turn c) L → let l = (turn c).before.loop in let r = c.fill_line-walk.new.1 in
+    ColumnDone (entry (turn c)).args.n L l.m l.walk c.fill_line-walk.result r.0 r.1.0 r.1.1.0
 column c L marked =
     let l = (turn c).before.loop.invariant L marked in
-    column-done l (in_order (turn c)) (c.fill-line.ensures.reached L l.reached)
+    column-done l (in_order (turn c)) (c.fill_line-walk.ensures.reached L l.reached)
 
 -- the work slice is as long as it came, and the pivot's index lies in it
-pivot : (c : Down) → let k = c.before.before.before.before.wide.result in let size = length c.fill-line.new.1.0 in
+pivot : (c : Down) → let k = c.wide-pivot.result in let size = length c.fill_line-walk.new.1.0 in
     (size ≡ length (entry (turn c)).args.work.now) × (k < 360000) × (k < size)
 pivot c =
     let e = entry (turn c) in
     let some = plan e in
-    let size = c.fill-line.auto.1.0 ∙ ((turn c).before.loop.invariant some.plan some.marked).size in
+    let size = c.fill_line-walk.auto.1.0 ∙ ((turn c).before.loop.invariant some.plan some.marked).size in
     let inside = (column c some.plan some.marked).inside in
     let s = sized e in
-    let at = c.before.before.before.before.wide.ensures in
+    let at = c.wide-pivot.ensures in
     (size, omega (arith, inside, mul-le-mul {n₂ = 600} {m₂ = 600} s.high s.high), omega (arith, inside, s.room, size))
 
-mul-slot : tie.Need-overflow-mul-slot invariant-loop decreases-loop
-mul-slot c = omega (arith, pivot (read c))
+offset_bounds-work-pivot : tie.Need-offset_bounds-work-pivot invariant-loop-m decreases-loop-m
+offset_bounds-work-pivot c = omega (arith, pivot (read c))
 
-slice-read-slot : tie.Need-slice-read-slot invariant-loop decreases-loop
-slice-read-slot c = (pivot (read c.before)).2
+bounds-work-pivot : tie.Need-bounds-work-pivot invariant-loop-m decreases-loop-m
+bounds-work-pivot c = (pivot (read c.before)).2
 
-fill-line-requires-2 : tie.Need-fill-line-requires-2 invariant-loop decreases-loop
-fill-line-requires-2 c κs =
+fill_line-walk-requires-in-loop-m : tie.Need-fill_line-walk-requires-in-loop-m invariant-loop-m decreases-loop-m
+fill_line-walk-requires-in-loop-m c κs =
     let d = lent c in
     let e = entry (turn d) in
     let some = plan e in
@@ -117,14 +117,14 @@ fill-line-requires-2 c κs =
     ((sized_again (sized e) (pivot d).0, l.from, in_order (turn d)), record { plan = some.plan; reached = (column d some.plan some.marked).turned })
 
 -- after a batch's row
-row : (c : Right) (L : Plan) → let t = turn (down c) in Marking t L → let r = c.fill-line2.new.1 in
-    RowDone (entry t).args.n L t.before.loop.m (down c).fill-line.result c.fill-line2.result r.0 r.1.0 r.1.1.0
+row : (c : Right) (L : Plan) → let t = turn (down c) in Marking t L → let r = c.fill_line-walk-in-loop-m.new.1 in
+    RowDone (entry t).args.n L t.loop-m.m (down c).fill-line.result c.fill_line-walk-in-loop-m.result r.0 r.1.0 r.1.1.0
 row c L marked =
     let t = turn (down c) in
     let turned = (column (down c) L marked).turned in
-    row_done (t.before.loop.inv L marked).from (in_order t) turned (c.fill-line2.ensures.reached L turned)
+    row_done (t.loop-m.inv L marked).from (in_order t) turned (c.fill_line-walk-in-loop-m.ensures.reached L turned)
 
-larger-requires : tie.Need-larger-requires invariant-loop decreases-loop
+larger-requires : tie.Need-larger-requires invariant-loop-m decreases-loop-m
 larger-requires c κs = search rules
 
 -- the slots that a batch's column gave below the pivot, and its row
@@ -132,61 +132,61 @@ abbrev Given : Paired → Plan → Type 0
 Given c L =
     let r = right c in
     let t = turn (down r) in
-    ((down r).fill-line.result.used ≡ c.larger.result + down_of (entry t).args.n L t.before.loop.m)
-    × (r.fill-line2.result.used ≡ (down r).fill-line.result.used + right_of (entry t).args.n L t.before.loop.m)
+    ((down r).fill-line.result.used ≡ c.larger.result + down_of (entry t).args.n L t.loop-m.m)
+    × (r.fill_line-walk-in-loop-m.result.used ≡ (down r).fill-line.result.used + right_of (entry t).args.n L t.loop-m.m)
 
 given : (c : Paired) (L : Plan) → Marking (turn (down (right c))) L → Given c L
 given c L marked =
     let r = right c in
     let d = down r in
     let t = turn d in
-    let from = rw d.before.before.before.before.wide.ensures at c.larger.ensures in
-    (down_given (t.before.loop.inv L marked) (in_order t) (column d L marked) _ from, (row r L marked).given)
+    let from = rw d.wide-pivot.ensures at c.larger.ensures in
+    (down_given (t.loop-m.inv L marked) (in_order t) (column d L marked) _ from, (row r L marked).given)
 
 -- those of the plan that is there
 some-given : (c : Paired) → Given c (plan (entry (turn (down (right c))))).plan
 some-given c = let some = plan (entry (turn (down (right c)))) in given c some.plan some.marked
 
-sub-down : tie.Need-overflow-sub-down invariant-loop decreases-loop
-sub-down c = omega (arith, some-given c)
+overflow_sub-down : tie.Need-overflow_sub-down invariant-loop-m decreases-loop-m
+overflow_sub-down c = omega (arith, some-given c)
 
-sub-right : tie.Need-overflow-sub-right invariant-loop decreases-loop
-sub-right c = omega (arith, some-given c.before)
+overflow_sub-right : tie.Need-overflow_sub-right invariant-loop-m decreases-loop-m
+overflow_sub-right c = omega (arith, some-given c.before)
 
-batch-products-requires : tie.Need-batch-products-requires invariant-loop decreases-loop
-batch-products-requires c κs =
+batch_products-products-requires : tie.Need-batch_products-products-requires invariant-loop-m decreases-loop-m
+batch_products-products-requires c κs =
     let t = turn (down (right c.before)) in
     let n = (entry t).args.n in
     let L = (plan (entry t)).plan in
-    let m = t.before.loop.m in
+    let m = t.loop-m.m in
     let high = (sized (entry t)).high in
     omega (arith, some-given c.before, line-at_most n L high (λ i. held n L i m) m, line-at_most n L high (held n L m) m)
 
 -- what the batch adds
-added : (c : tie.After-batch-products invariant-loop decreases-loop) (L : Plan) → let r = right c.before.before in let t = turn (down r) in Marking t L →
-    (c.batch-products.result ≡ batch_products (entry t).args.n L t.before.loop.m)
-    × (r.fill-line2.result.used - (down r).fill-line.result.used ≡ right_of (entry t).args.n L t.before.loop.m)
+added : (c : tie.After-batch_products-products invariant-loop-m decreases-loop-m) (L : Plan) → let r = right c.before.before in let t = turn (down r) in Marking t L →
+    (c.batch_products-products.result ≡ batch_products (entry t).args.n L t.loop-m.m)
+    × (r.fill_line-walk-in-loop-m.result.used - (down r).fill-line.result.used ≡ right_of (entry t).args.n L t.loop-m.m)
 added c L marked =
     let q = c.before.before in
     let r = right q in
     let t = turn (down r) in
     let n = (entry t).args.n in
-    let m = t.before.loop.m in
+    let m = t.loop-m.m in
     let g = given q L marked in
     let below : (down r).fill-line.result.used - q.larger.result ≡ down_of n L m = omega (arith, g.0) in
-    let over : r.fill-line2.result.used - (down r).fill-line.result.used ≡ right_of n L m = omega (arith, g.1) in
-    (c.batch-products.ensures ∙ ap₂ (λ d r. d * r + d + r) below over, over)
+    let over : r.fill_line-walk-in-loop-m.result.used - (down r).fill-line.result.used ≡ right_of n L m = omega (arith, g.1) in
+    (c.batch_products-products.ensures ∙ ap₂ (λ d r. d * r + d + r) below over, over)
 
 -- the sums stay small
-small : (c : tie.After-batch-products invariant-loop decreases-loop) → let r = right c.before.before in let l = (turn (down r)).before.loop in
-    (l.products + c.batch-products.result ≤ 220000000)
-    × (l.above + (r.fill-line2.result.used - (down r).fill-line.result.used) ≤ 400000) × (l.m ≤ 600)
+small : (c : tie.After-batch_products-products invariant-loop-m decreases-loop-m) → let r = right c.before.before in let l = (turn (down r)).loop-m in
+    (l.products + c.batch_products-products.result ≤ 220000000)
+    × (l.above + (r.fill_line-walk-in-loop-m.result.used - (down r).fill-line.result.used) ≤ 400000) × (l.m ≤ 600)
 small c =
     let t = turn (down (right c.before.before)) in
     let n = (entry t).args.n in
     let some = plan (entry t) in
     let L = some.plan in
-    let l = t.before.loop in
+    let l = t.loop-m in
     let high = (sized (entry t)).high in
     omega (
       arith,
@@ -200,73 +200,73 @@ small c =
       high,
     )
 
-add-products : tie.Need-overflow-add-products invariant-loop decreases-loop
-add-products c = omega (arith, small c)
+overflow_add-products : tie.Need-overflow_add-products invariant-loop-m decreases-loop-m
+overflow_add-products c = omega (arith, small c)
 
-add-above : tie.Need-overflow-add-above invariant-loop decreases-loop
-add-above c = omega (arith, small c)
+overflow_add-above : tie.Need-overflow_add-above invariant-loop-m decreases-loop-m
+overflow_add-above c = omega (arith, small c)
 
-first-missing-requires : tie.Need-first-missing-requires invariant-loop decreases-loop
-first-missing-requires c κs = search rules
+first_missing-missing-requires : tie.Need-first_missing-missing-requires invariant-loop-m decreases-loop-m
+first_missing-missing-requires c κs = search rules
 
-add-m : tie.Need-overflow-add-m invariant-loop decreases-loop
-add-m c = omega (arith, small c.before)
+overflow_add-m : tie.Need-overflow_add-m invariant-loop-m decreases-loop-m
+overflow_add-m c = omega (arith, small c.before)
 
-loop-less : tie.Need-loop-smaller invariant-loop decreases-loop
+loop-less : tie.Need-loop-m-smaller invariant-loop-m decreases-loop-m
 loop-less c = omega (arith, in_order (turn (down (right c.before.before.before))))
 
-loop-again : tie.Need-loop-preserved invariant-loop decreases-loop
+loop-again : tie.Need-loop-m-preserved invariant-loop-m decreases-loop-m
 loop-again c = λ L marked.
     let r = right c.before.before.before in
     let d = down r in
     let l = (turn d).before.loop in
     let more = added c.before L marked in
-    let size = r.fill-line2.kept.1.0 ∙ (pivot d).0 in
+    let size = r.fill_line-walk-in-loop-m.kept.1.0 ∙ (pivot d).0 in
     rw add-one
-    (pass_next (l.inv L marked) (in_order (turn d)) (column d L marked) d.fill-line.ensures.rest (row r L marked) size r.fill-line2.ensures.rest
+    (pass_next (l.inv L marked) (in_order (turn d)) (column d L marked) d.fill_line-walk.ensures.rest (row r L marked) size r.fill_line-walk-in-loop-m.ensures.rest
     (ap (λ k. l.products + k) more.0) (ap (λ k. l.above + k) more.1)
-    (rw d.before.before.before.before.wide.ensures at c.first-missing.ensures))
+    (rw d.wide-pivot.ensures at c.first_missing-missing.ensures))
 
 -- what the pass came to
-whole : (c : tie.At-loop invariant-loop decreases-loop) → let a = (start c).args in let l = c.loop in
+whole : (c : tie.At-loop-m invariant-loop-m decreases-loop-m) → let a = (start c).args in let l = c.loop-m in
     Passing a.n (plan (start c)).plan a.work.now l.m l.walk l.products l.above l.missing l.work l.rows l.columns
-whole c = let some = plan (start c) in c.loop.invariant some.plan some.marked
+whole c = let some = plan (start c) in c.loop-m.invariant some.plan some.marked
 
-same_length : tie.Need-same-length invariant-loop decreases-loop
-same_length c = (whole c.before).size
+shape_of-work : tie.Need-shape_of-work invariant-loop-m decreases-loop-m
+shape_of-work c = (whole c.before).size
 
-same-length-2 : tie.Need-same-length-2 invariant-loop decreases-loop
-same-length-2 c = (whole c.before).reached.walked.row_count ∙ sym (noted-none (start c.before).pre.1.1.0)
+shape_of-rows : tie.Need-shape_of-rows invariant-loop-m decreases-loop-m
+shape_of-rows c = (whole c.before).reached.walked.row_count ∙ sym (noted-none (start c.before).pre.1.1.0)
 
-same-length-3 : tie.Need-same-length-3 invariant-loop decreases-loop
-same-length-3 c = (whole c.before).reached.walked.column-count ∙ sym (noted-none (start c.before).pre.1.1.1)
+shape_of-columns : tie.Need-shape_of-columns invariant-loop-m decreases-loop-m
+shape_of-columns c = (whole c.before).reached.walked.column-count ∙ sym (noted-none (start c.before).pre.1.1.1)
 
-returns : tie.Need-returns invariant-loop decreases-loop
-returns c = λ L marked. pass_end (c.before.loop.invariant L marked) c.loop-test.false
+returns : tie.Need-returns invariant-loop-m decreases-loop-m
+returns c = λ L marked. pass_end (c.loop-m.invariant L marked) c.loop-m-test.false
 
 pub fill_spec : {M : Type 1} → statement M
 fill_spec =
     tie.close
     (tie.spec
-    invariant-loop
-    decreases-loop
+    invariant-loop-m
+    decreases-loop-m
     loop-holds
-    wide-requires
-    fill-line-requires
-    mul-slot
-    slice-read-slot
-    fill-line-requires-2
+    wide-pivot-requires
+    fill_line-walk-requires
+    offset_bounds-work-pivot
+    bounds-work-pivot
+    fill_line-walk-requires-in-loop-m
     larger-requires
-    sub-down
-    sub-right
-    batch-products-requires
-    add-products
-    add-above
-    first-missing-requires
-    add-m
+    overflow_sub-down
+    overflow_sub-right
+    batch_products-products-requires
+    overflow_add-products
+    overflow_add-above
+    first_missing-missing-requires
+    overflow_add-m
     loop-less
     loop-again
-    same_length
-    same-length-2
-    same-length-3
+    shape_of-work
+    shape_of-rows
+    shape_of-columns
     returns)

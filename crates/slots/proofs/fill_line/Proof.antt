@@ -20,50 +20,50 @@ use Rattle.slots.proofs.Along.{Along, along_start, along_here, along_room, along
 use Rattle.slots.proofs.fill_line.Statement.{statement}
 use Rattle.slots.proofs.fill_line.Tie as tie
 
-abbrev invariant-loop2 : tie.invariant-loop2
-invariant-loop2 n work rows columns m across walk t i j planned h₀ low₀ high₀ h low high = Searching n work m i j planned h low high
+abbrev invariant-loop-h : tie.invariant-loop-h
+invariant-loop-h n work rows columns m across walk t i j planned h₀ low₀ high₀ h low high = Searching n work m i j planned h low high
 
-abbrev decreases-loop2 : tie.decreases-loop2
-decreases-loop2 n work rows columns m across walk t i j planned h₀ low₀ high₀ h low high = m - h
+abbrev decreases-loop-h : tie.decreases-loop-h
+decreases-loop-h n work rows columns m across walk t i j planned h₀ low₀ high₀ h low high = m - h
 
-abbrev invariant-loop : tie.invariant-loop
-invariant-loop n work₀ rows₀ columns₀ m across walk₀ t₀ work rows columns walk t =
+abbrev invariant-loop-t : tie.invariant-loop-t
+invariant-loop-t n work₀ rows₀ columns₀ m across walk₀ t₀ work rows columns walk t =
     (L : Plan) → Reached n L across m (first_of across m) walk₀ work₀ rows₀ columns₀ → Along n L work₀ across m t walk work rows columns
 
-abbrev decreases-loop : tie.decreases-loop
-decreases-loop n work₀ rows₀ columns₀ m across walk₀ t₀ work rows columns walk t = suc n - t
+abbrev decreases-loop-t : tie.decreases-loop-t
+decreases-loop-t n work₀ rows₀ columns₀ m across walk₀ t₀ work rows columns walk t = suc n - t
 
 -- Places of the code: where a turn stands at its place, with the loop's head and the entry before it; where its search starts, and where an h is tried; where
 -- the place is settled; and where the empty ones after it are counted.
 abbrev Turn : Type 0
-Turn = tie.After-column-of invariant-loop2 decreases-loop2 invariant-loop decreases-loop
+Turn = tie.After-column_of-j invariant-loop-h decreases-loop-h invariant-loop-t decreases-loop-t
 
-abbrev head : Turn → tie.At-loop invariant-loop2 decreases-loop2 invariant-loop decreases-loop
+abbrev head : Turn → tie.At-loop-t invariant-loop-h decreases-loop-h invariant-loop-t decreases-loop-t
 head c = c.before.before.before
 
-abbrev start : tie.At-loop invariant-loop2 decreases-loop2 invariant-loop decreases-loop → tie.Start invariant-loop2 decreases-loop2 invariant-loop decreases-loop
+abbrev start : tie.At-loop-t invariant-loop-h decreases-loop-h invariant-loop-t decreases-loop-t → tie.Start invariant-loop-h decreases-loop-h invariant-loop-t decreases-loop-t
 start c = c.before.before.before.before.before
 
-abbrev entry : Turn → tie.Start invariant-loop2 decreases-loop2 invariant-loop decreases-loop
+abbrev entry : Turn → tie.Start invariant-loop-h decreases-loop-h invariant-loop-t decreases-loop-t
 entry c = start (head c)
 
-abbrev from : tie.After-search-from invariant-loop2 decreases-loop2 invariant-loop decreases-loop → Turn
-from c = c.before.before.before.before.before
+abbrev from : tie.After-search_from-h invariant-loop-h decreases-loop-h invariant-loop-t decreases-loop-t → Turn
+from c = c.before.before
 
-abbrev searching : tie.At-loop2 invariant-loop2 decreases-loop2 invariant-loop decreases-loop → tie.After-search-from invariant-loop2 decreases-loop2 invariant-loop decreases-loop
+abbrev searching : tie.At-loop-h invariant-loop-h decreases-loop-h invariant-loop-t decreases-loop-t → tie.After-search_from-h invariant-loop-h decreases-loop-h invariant-loop-t decreases-loop-t
 searching c = c.before.before.before
 
-abbrev turn : tie.At-loop2 invariant-loop2 decreases-loop2 invariant-loop decreases-loop → Turn
+abbrev turn : tie.At-loop-h invariant-loop-h decreases-loop-h invariant-loop-t decreases-loop-t → Turn
 turn c = from (searching c)
 
 abbrev Settled : Type 0
-Settled = tie.After-settle invariant-loop2 decreases-loop2 invariant-loop decreases-loop
+Settled = tie.After-settle-walk invariant-loop-h decreases-loop-h invariant-loop-t decreases-loop-t
 
-abbrev searched : Settled → tie.Joined1 invariant-loop2 decreases-loop2 invariant-loop decreases-loop
+abbrev searched : Settled → tie.Joined-m-h invariant-loop-h decreases-loop-h invariant-loop-t decreases-loop-t
 searched c = c.before.before.before.before
 
 abbrev Counting : Type 0
-Counting = tie.After-empty-run-arg3 invariant-loop2 decreases-loop2 invariant-loop decreases-loop
+Counting = tie.After-empty-run-arg3 invariant-loop-h decreases-loop-h invariant-loop-t decreases-loop-t
 
 abbrev settled : Counting → Settled
 settled c = c.before.before.before.before.before.before.before.before.before
@@ -82,112 +82,112 @@ abbrev AtPlace : Turn → Plan → Type 0
 AtPlace c L =
     let a = (entry c).args in
     let l = (head c).loop in
-    Here a.n L a.m c.before.row_of.result c.column-of.result l.walk l.work l.rows l.columns
+    Here a.n L a.m c.row_of-i.result c.column_of-j.result l.walk l.work l.rows l.columns
 
 at_place : (c : Turn) (L : Plan) → Entered c L → AtPlace c L
 at_place c L r =
     let p = (entry c).requires.0 in
-    along_here p.0 p.1 p.2 _ _ ((head c).loop.invariant L r) c.before.before.loop-test.true c.before.row_of.ensures c.column-of.ensures
+    along_here p.0 p.1 p.2 _ _ ((head c).loop.invariant L r) c.loop-t-test.true c.row_of-i.ensures c.column_of-j.ensures
 
 here : (c : Turn) → AtPlace c (entry c).requires.1.plan
 here c = at_place c _ (entry c).requires.1.reached
 
-first-of-requires : tie.Need-first-of-requires invariant-loop2 decreases-loop2 invariant-loop decreases-loop
-first-of-requires c κs = omega (arith, c.before.before.before.requires)
+first_of-t-requires : tie.Need-first_of-t-requires invariant-loop-h decreases-loop-h invariant-loop-t decreases-loop-t
+first_of-t-requires c κs = omega (arith, c.requires)
 
-loop-holds : tie.Need-loop-init invariant-loop2 decreases-loop2 invariant-loop decreases-loop
-loop-holds c = λ L r. along_start _ c.first_of.ensures c.before.before.before.before.requires.0.2 r
+loop-holds : tie.Need-loop-t-init invariant-loop-h decreases-loop-h invariant-loop-t decreases-loop-t
+loop-holds c = λ L r. along_start _ c.first_of-t.ensures c.requires.0.2 r
 
-row-of-requires : tie.Need-row-of-requires invariant-loop2 decreases-loop2 invariant-loop decreases-loop
-row-of-requires c κs = search rules
+row_of-i-requires : tie.Need-row_of-i-requires invariant-loop-h decreases-loop-h invariant-loop-t decreases-loop-t
+row_of-i-requires c κs = search rules
 
-column-of-requires : tie.Need-column-of-requires invariant-loop2 decreases-loop2 invariant-loop decreases-loop
-column-of-requires c κs = search rules
+column_of-j-requires : tie.Need-column_of-j-requires invariant-loop-h decreases-loop-h invariant-loop-t decreases-loop-t
+column_of-j-requires c κs = search rules
 
-is-marked-requires : tie.Need-is-marked-requires invariant-loop2 decreases-loop2 invariant-loop decreases-loop
-is-marked-requires c κs = (bounds (here c.before)).1
+is_marked-planned-requires : tie.Need-is_marked-planned-requires invariant-loop-h decreases-loop-h invariant-loop-t decreases-loop-t
+is_marked-planned-requires c κs = (bounds (here c)).1
 
-search-from-requires : tie.Need-search-from-requires invariant-loop2 decreases-loop2 invariant-loop decreases-loop
-search-from-requires c κs = let b = bounds (here c.before.before.before.before) in (b.3, b.4)
+search_from-h-requires : tie.Need-search_from-h-requires invariant-loop-h decreases-loop-h invariant-loop-t decreases-loop-t
+search_from-h-requires c κs = let b = bounds (here c.before) in (b.3, b.4)
 
 -- the pair of a place that is sought
-pairs : (c : tie.After-search-from invariant-loop2 decreases-loop2 invariant-loop decreases-loop) → let t = from c in let a = (entry t).args in let h = c.search-from.result in
-    ltb h a.m ≡ true → Inside a.n t.before.row_of.result h × Inside a.n h t.column-of.result
+pairs : (c : tie.After-search_from-h invariant-loop-h decreases-loop-h invariant-loop-t decreases-loop-t) → let t = from c in let a = (entry t).args in let h = c.search_from-h.result in
+    ltb h a.m ≡ true → Inside a.n t.row_of-i.result h × Inside a.n h t.column_of-j.result
 pairs c sought =
     let at = here (from c) in
-    pair_inside at.inside at.batch _ (start-low at c.before.before.before.is-marked.result c.search-from.ensures) (ltb-true _ _ sought)
+    pair_inside at.inside at.batch _ (start-low at c.is_marked-planned.result c.search_from-h.ensures) (ltb-true _ _ sought)
 
-index-of-requires : tie.Need-index-of-requires invariant-loop2 decreases-loop2 invariant-loop decreases-loop
-index-of-requires c κs = let s = (here (from c)).sized in ((s.low, s.high), λ sought. (pairs c sought).0)
+index_of-low-requires : tie.Need-index_of-low-requires invariant-loop-h decreases-loop-h invariant-loop-t decreases-loop-t
+index_of-low-requires c κs = let s = (here (from c)).sized in ((s.low, s.high), λ sought. (pairs c sought).0)
 
-index-of-requires-2 : tie.Need-index-of-requires-2 invariant-loop2 decreases-loop2 invariant-loop decreases-loop
-index-of-requires-2 c κs = let s = (here (from c.before)).sized in ((s.low, s.high), λ sought. (pairs c.before sought).1)
+index_of-high-requires : tie.Need-index_of-high-requires invariant-loop-h decreases-loop-h invariant-loop-t decreases-loop-t
+index_of-high-requires c κs = let s = (here (from c.before)).sized in ((s.low, s.high), λ sought. (pairs c.before sought).1)
 
-loop2-holds : tie.Need-loop2-init invariant-loop2 decreases-loop2 invariant-loop decreases-loop
+loop2-holds : tie.Need-loop-h-init invariant-loop-h decreases-loop-h invariant-loop-t decreases-loop-t
 loop2-holds c =
     let f = c.before.before in
-    search_begins (here (from f)) f.search-from.ensures c.before.index_of.ensures c.index-of2.ensures
+    search_begins (here (from f)) f.search_from-h.ensures c.index_of-low.ensures c.index_of-high.ensures
 
 -- where h is tried
-tried : (c : tie.Else1 invariant-loop2 decreases-loop2 invariant-loop decreases-loop) → let l = c.before.loop2 in let t = turn c.before in
+tried : (c : tie.Else-m-h invariant-loop-h decreases-loop-h invariant-loop-t decreases-loop-t) → let l = c.loop-h in let t = turn c.before in
     (l.low < length (head t).loop.work) × (l.high < length (head t).loop.work) × (l.low < 360000) × (l.high < 360000)
     × (l.h < (entry t).args.n) × ((entry t).args.n ≤ 600)
-tried c = indices (here (turn c.before)) c.before.loop2.invariant c.if1.false
+tried c = indices (here (turn c.before)) c.loop-h.invariant c.if-m-h.false
 
-both-used-requires : tie.Need-both-used-requires invariant-loop2 decreases-loop2 invariant-loop decreases-loop
-both-used-requires c κs = let i = tried c.before in (i.0, i.1)
+both_used-requires : tie.Need-both_used-requires invariant-loop-h decreases-loop-h invariant-loop-t decreases-loop-t
+both_used-requires c κs = let i = tried c in (i.0, i.1)
 
-sub_wide : tie.Need-overflow-sub-wide invariant-loop2 decreases-loop2 invariant-loop decreases-loop
-sub_wide c = omega (arith, tried c.before.before.before)
+overflow_sub-n : tie.Need-overflow_sub-n invariant-loop-h decreases-loop-h invariant-loop-t decreases-loop-t
+overflow_sub-n c = omega (arith, tried c.before.before)
 
-wide-requires : tie.Need-wide-requires invariant-loop2 decreases-loop2 invariant-loop decreases-loop
-wide-requires c κs = search rules
+wide-left-requires : tie.Need-wide-left-requires invariant-loop-h decreases-loop-h invariant-loop-t decreases-loop-t
+wide-left-requires c κs = search rules
 
 -- the numbers of the next h
-next : (c : tie.After-wide invariant-loop2 decreases-loop2 invariant-loop decreases-loop) → let s = c.before.before.before.before.before in let l = s.loop2 in let t = turn s in
-    (c.wide.result ≡ (entry t).args.n - l.h) × (c.wide.result ≤ 600) × (1 ≤ c.wide.result) × (l.low < 360000) × (l.high < 360000) × (l.h < 600)
-next c = omega (arith, tried c.before.before.before.before, c.wide.ensures)
+next : (c : tie.After-wide-left invariant-loop-h decreases-loop-h invariant-loop-t decreases-loop-t) → let s = c.before.before.before.before.before in let l = s.loop-h in let t = turn s in
+    (c.wide-left.result ≡ (entry t).args.n - l.h) × (c.wide-left.result ≤ 600) × (1 ≤ c.wide-left.result) × (l.low < 360000) × (l.high < 360000) × (l.h < 600)
+next c = omega (arith, tried c.before.before.before, c.wide-left.ensures)
 
-add_low : tie.Need-overflow-add-low invariant-loop2 decreases-loop2 invariant-loop decreases-loop
-add_low c = omega (arith, next c)
+overflow_add-low : tie.Need-overflow_add-low invariant-loop-h decreases-loop-h invariant-loop-t decreases-loop-t
+overflow_add-low c = omega (arith, next c)
 
-add-low-2 : tie.Need-overflow-add-low-2 invariant-loop2 decreases-loop2 invariant-loop decreases-loop
-add-low-2 c = omega (arith, next c)
+overflow_add-low-in-loop-h : tie.Need-overflow_add-low-in-loop-h invariant-loop-h decreases-loop-h invariant-loop-t decreases-loop-t
+overflow_add-low-in-loop-h c = omega (arith, next c)
 
-add-high : tie.Need-overflow-add-high invariant-loop2 decreases-loop2 invariant-loop decreases-loop
-add-high c = omega (arith, next c)
+overflow_add-high : tie.Need-overflow_add-high invariant-loop-h decreases-loop-h invariant-loop-t decreases-loop-t
+overflow_add-high c = omega (arith, next c)
 
-sub-high : tie.Need-overflow-sub-high invariant-loop2 decreases-loop2 invariant-loop decreases-loop
-sub-high c = omega (arith, next c)
+overflow_sub-high : tie.Need-overflow_sub-high invariant-loop-h decreases-loop-h invariant-loop-t decreases-loop-t
+overflow_sub-high c = omega (arith, next c)
 
-add-high-2 : tie.Need-overflow-add-high-2 invariant-loop2 decreases-loop2 invariant-loop decreases-loop
-add-high-2 c = omega (arith, next c)
+overflow_add-high-in-loop-h : tie.Need-overflow_add-high-in-loop-h invariant-loop-h decreases-loop-h invariant-loop-t decreases-loop-t
+overflow_add-high-in-loop-h c = omega (arith, next c)
 
-add-h : tie.Need-overflow-add-h invariant-loop2 decreases-loop2 invariant-loop decreases-loop
-add-h c = omega (arith, next c)
+overflow_add-h : tie.Need-overflow_add-h invariant-loop-h decreases-loop-h invariant-loop-t decreases-loop-t
+overflow_add-h c = omega (arith, next c)
 
-loop2-less : tie.Need-loop2-smaller invariant-loop2 decreases-loop2 invariant-loop decreases-loop
-loop2-less c = omega (arith, c.before.before.before.before.if1.false)
+loop2-less : tie.Need-loop-h-smaller invariant-loop-h decreases-loop-h invariant-loop-t decreases-loop-t
+loop2-less c = omega (arith, c.if-m-h.false)
 
-loop2-again : tie.Need-loop2-preserved invariant-loop2 decreases-loop2 invariant-loop decreases-loop
+loop2-again : tie.Need-loop-h-preserved invariant-loop-h decreases-loop-h invariant-loop-t decreases-loop-t
 loop2-again c =
     let e = c.before.before.before.before in
     let s = e.before in
     rw add-one
-    (search_onward (here (turn s)) s.loop2.invariant e.if1.false _ c.before.before.both_used.ensures c.before.if2.false c.wide.ensures)
+    (search_onward (here (turn s)) s.loop-h.invariant e.if-m-h.false _ c.both_used.ensures c.if-both_used.false c.wide-left.ensures)
 
 -- it is known whether the place is held
-known : (c : tie.Joined1 invariant-loop2 decreases-loop2 invariant-loop decreases-loop) (L : Plan) → let t = turn c.before in Entered t L →
-    c.if1.held ≡ held (entry t).args.n L t.before.row_of.result t.column-of.result
+known : (c : tie.Joined-m-h invariant-loop-h decreases-loop-h invariant-loop-t decreases-loop-t) (L : Plan) → let t = turn c.before in Entered t L →
+    c.if-m-h.held ≡ held (entry t).args.n L t.row_of-i.result t.column_of-j.result
 known c L r =
     let at = at_place (turn c.before) L r in
-    let s = c.before.loop2.invariant in
+    let s = c.loop-h.invariant in
     let all = held_by_work at (searching c.before).before.before.before.is-marked.ensures in
     ⊎_elim (λ w. w.1 ∙ search_ended at s w.0.taken ∙ sym all)
-    (λ w. w.4 ∙ search_found at s w.0.left w.2.ensures w.3.taken ∙ sym all) c.if1.branch
+    (λ w. w.4 ∙ search_found at s w.0.left w.2.ensures w.3.taken ∙ sym all) c.if-m-h.branch
 
-settle-requires : tie.Need-settle-requires invariant-loop2 decreases-loop2 invariant-loop decreases-loop
-settle-requires c κs =
+settle-walk-requires : tie.Need-settle-walk-requires invariant-loop-h decreases-loop-h invariant-loop-t decreases-loop-t
+settle-walk-requires c κs =
     let b = bounds (here (turn c.before.before.before.before)) in
     ((omega arith, b.1, omega arith), (b.3, b.4))
 
@@ -196,108 +196,108 @@ abbrev Done : Settled → Plan → Type 0
 Done c L =
     let t = turn (searched c).before in
     let a = (entry t).args in
-    let s = c.settle in
+    let s = c.settle-walk in
     Along a.n L a.work.now a.across a.m (suc (head t).loop.t) s.result s.new.0 s.new.1.0 s.new.1.1.0
 
 after : (c : Settled) (L : Plan) → Entered (turn (searched c).before) L → Done c L
 after c L r =
     let t = turn (searched c).before in
     let p = (entry t).pre.0 in
-    along_next p.0 p.1 p.2 ((head t).loop.inv L r) t.before.before.loop-test.taken t.before.row_of.ensures t.column-of.ensures
-    (known (searched c) L r) c.settle.ensures
+    along_next p.0 p.1 p.2 ((head t).loop.inv L r) t.loop-t-test.taken t.row_of-i.ensures t.column_of-j.ensures
+    (known (searched c) L r) c.settle-walk.ensures
 
 done : (c : Settled) → Done c (entry (turn (searched c).before)).pre.1.plan
 done c = after c _ (entry (turn (searched c).before)).pre.1.reached
 
-add-empty-run : tie.Need-overflow-add-empty-run invariant-loop2 decreases-loop2 invariant-loop decreases-loop
-add-empty-run c = omega (arith, (place c).before.before.loop-test.true, (entry (place c)).pre)
+overflow_add-t : tie.Need-overflow_add-t invariant-loop-h decreases-loop-h invariant-loop-t decreases-loop-t
+overflow_add-t c = omega (arith, (place c).before.before.loop-test.true, (entry (place c)).pre)
 
-empty-run-requires : tie.Need-empty-run-requires invariant-loop2 decreases-loop2 invariant-loop decreases-loop
-empty-run-requires c κs =
+empty_run-empty-requires : tie.Need-empty_run-empty-requires invariant-loop-h decreases-loop-h invariant-loop-t decreases-loop-t
+empty_run-empty-requires c κs =
     let p = (entry (place c)).pre.0 in
     let room = along_room p.0 p.1 p.2 (done (settled c)) in
     (omega (arith, (place c).before.before.loop-test.true), p.0.high, room.2, room.3, omega (arith, room.1))
 
 -- the places passed over are on the line
-passed : (c : tie.After-struct-known invariant-loop2 decreases-loop2 invariant-loop decreases-loop) → let t = place c.before.before in let r = c.before.empty-run.result in
+passed : (c : tie.After-struct_known-1 invariant-loop-h decreases-loop-h invariant-loop-t decreases-loop-t) → let t = place c.before.before in let r = c.empty_run-empty.result in
     ((head t).loop.t + 1 + r ≤ suc (entry t).args.n) × ((settled c.before.before).settle.result.done + r ≤ 360000) × ((entry t).args.n ≤ 600)
 passed c =
     let p = (entry (place c.before.before)).pre.0 in
-    omega (arith, (along_room p.0 p.1 p.2 (done (settled c.before.before))).0, c.before.empty-run.ensures.inside, p.0.high)
+    omega (arith, (along_room p.0 p.1 p.2 (done (settled c.before.before))).0, c.empty_run-empty.ensures.inside, p.0.high)
 
-add-walk : tie.Need-overflow-add-walk invariant-loop2 decreases-loop2 invariant-loop decreases-loop
-add-walk c = omega (arith, passed c)
+overflow_add-walk : tie.Need-overflow_add-walk invariant-loop-h decreases-loop-h invariant-loop-t decreases-loop-t
+overflow_add-walk c = omega (arith, passed c)
 
-add-t : tie.Need-overflow-add-t invariant-loop2 decreases-loop2 invariant-loop decreases-loop
-add-t c = omega (arith, passed c)
+overflow_add-t-in-loop-t : tie.Need-overflow_add-t-in-loop-t invariant-loop-h decreases-loop-h invariant-loop-t decreases-loop-t
+overflow_add-t-in-loop-t c = omega (arith, passed c)
 
-add-t-2 : tie.Need-overflow-add-t-2 invariant-loop2 decreases-loop2 invariant-loop decreases-loop
-add-t-2 c = omega (arith, passed c)
+overflow_add-t-in-loop-t-2 : tie.Need-overflow_add-t-in-loop-t-2 invariant-loop-h decreases-loop-h invariant-loop-t decreases-loop-t
+overflow_add-t-in-loop-t-2 c = omega (arith, passed c)
 
-loop-less : tie.Need-loop-smaller invariant-loop2 decreases-loop2 invariant-loop decreases-loop
+loop-less : tie.Need-loop-t-smaller invariant-loop-h decreases-loop-h invariant-loop-t decreases-loop-t
 loop-less c = omega (arith, passed c)
 
-loop-again : tie.Need-loop-preserved invariant-loop2 decreases-loop2 invariant-loop decreases-loop
+loop-again : tie.Need-loop-t-preserved invariant-loop-h decreases-loop-h invariant-loop-t decreases-loop-t
 loop-again c = λ L r.
     let t = place c.before.before in
     let p = (entry t).pre.0 in
-    let e : (head t).loop.t + (c.before.empty-run.result + 1) ≡ suc (head t).loop.t + c.before.empty-run.result = omega arith in
-    rw e (along_run p.0 p.1 p.2 _ (after (settled c.before.before) L r) (rw add-one at c.before.empty-run.ensures))
+    let e : (head t).loop.t + (c.empty_run-empty.result + 1) ≡ suc (head t).loop.t + c.empty_run-empty.result = omega arith in
+    rw e (along_run p.0 p.1 p.2 _ (after (settled c.before.before) L r) (rw add-one at c.empty_run-empty.ensures))
 
 -- what the line's places came to
-whole : (c : tie.At-loop invariant-loop2 decreases-loop2 invariant-loop decreases-loop) → let a = (start c).args in let l = c.loop in
+whole : (c : tie.At-loop-t invariant-loop-h decreases-loop-h invariant-loop-t decreases-loop-t) → let a = (start c).args in let l = c.loop-t in
     Along a.n (start c).requires.1.plan a.work.now a.across a.m l.t l.walk l.work l.rows l.columns
-whole c = c.loop.invariant _ (start c).requires.1.reached
+whole c = c.loop-t.invariant _ (start c).requires.1.reached
 
-same_length : tie.Need-same-length invariant-loop2 decreases-loop2 invariant-loop decreases-loop
-same_length c = (whole c.before).size
+shape_of-work : tie.Need-shape_of-work invariant-loop-h decreases-loop-h invariant-loop-t decreases-loop-t
+shape_of-work c = (whole c.before).size
 
-same-length-2 : tie.Need-same-length-2 invariant-loop2 decreases-loop2 invariant-loop decreases-loop
-same-length-2 c = (whole c.before).reached.walked.row_count ∙ sym (start c.before).pre.1.reached.walked.row_count
+shape_of-rows : tie.Need-shape_of-rows invariant-loop-h decreases-loop-h invariant-loop-t decreases-loop-t
+shape_of-rows c = (whole c.before).reached.walked.row_count ∙ sym (start c.before).pre.1.reached.walked.row_count
 
-same-length-3 : tie.Need-same-length-3 invariant-loop2 decreases-loop2 invariant-loop decreases-loop
-same-length-3 c = (whole c.before).reached.walked.column-count ∙ sym (start c.before).pre.1.reached.walked.column-count
+shape_of-columns : tie.Need-shape_of-columns invariant-loop-h decreases-loop-h invariant-loop-t decreases-loop-t
+shape_of-columns c = (whole c.before).reached.walked.column-count ∙ sym (start c.before).pre.1.reached.walked.column-count
 
-returns : tie.Need-returns invariant-loop2 decreases-loop2 invariant-loop decreases-loop
-returns c = record { reached = λ L r. along_end (c.before.loop.invariant L r) c.loop-test.false; rest = (whole c.before).rest }
+returns : tie.Need-returns invariant-loop-h decreases-loop-h invariant-loop-t decreases-loop-t
+returns c = record { reached = λ L r. along_end (c.loop-t.invariant L r) c.loop-t-test.false; rest = (whole c.before).rest }
 
 pub fill_line_spec : {M : Type 1} → statement M
 fill_line_spec =
     tie.close
     (tie.spec
-    invariant-loop2
-    decreases-loop2
-    invariant-loop
-    decreases-loop
-    first-of-requires
+    invariant-loop-h
+    decreases-loop-h
+    invariant-loop-t
+    decreases-loop-t
+    first_of-t-requires
     loop-holds
-    row-of-requires
-    column-of-requires
-    is-marked-requires
-    search-from-requires
-    index-of-requires
-    index-of-requires-2
+    row_of-i-requires
+    column_of-j-requires
+    is_marked-planned-requires
+    search_from-h-requires
+    index_of-low-requires
+    index_of-high-requires
     loop2-holds
-    both-used-requires
-    sub_wide
-    wide-requires
-    add_low
-    add-low-2
-    add-high
-    sub-high
-    add-high-2
-    add-h
+    both_used-requires
+    overflow_sub-n
+    wide-left-requires
+    overflow_add-low
+    overflow_add-low-in-loop-h
+    overflow_add-high
+    overflow_sub-high
+    overflow_add-high-in-loop-h
+    overflow_add-h
     loop2-less
     loop2-again
-    settle-requires
-    add-empty-run
-    empty-run-requires
-    add-walk
-    add-t
-    add-t-2
+    settle-walk-requires
+    overflow_add-t
+    empty_run-empty-requires
+    overflow_add-walk
+    overflow_add-t-in-loop-t
+    overflow_add-t-in-loop-t-2
     loop-less
     loop-again
-    same_length
-    same-length-2
-    same-length-3
+    shape_of-work
+    shape_of-rows
+    shape_of-columns
     returns)

@@ -4,24 +4,24 @@ use borrow.Author.Tests.{le-leb, lt-leb, eq-eqb, ne_eqb}
 use Rattle.slots.proofs.is_empty.Statement.{statement}
 use Rattle.slots.proofs.is_empty.Tie as tie
 
-mul-if2 : tie.Need-overflow-mul-if2
-mul-if2 c = let there = c.before.before.before.before.requires.2 c.if1.true in search rules
+offset_bounds-work-index : tie.Need-offset_bounds-work-index
+offset_bounds-work-index c = let there = c.requires.2 c.if-k-n.true in search rules
 
-shared-slice-read-if2 : tie.Need-shared-slice-read-if2
-shared-slice-read-if2 c = c.before.before.before.before.before.requires.2 c.before.if1.true
+bounds-work-index : tie.Need-bounds-work-index
+bounds-work-index c = c.requires.2 c.if-k-n.true
 
 noted-requires : tie.Need-noted-requires
 noted-requires c κs = search rules
 
-returns : tie.Need-returns
-returns c = rw (le-leb _ _ c.before.before.before.if1.true, eq-eqb _ 0 c.before.if2.true, c.noted.ensures)
+returns-then-work-index-eq0 : tie.Need-returns-then-work-index-eq0
+returns-then-work-index-eq0 c = rw (le-leb _ _ c.if-k-n.true, eq-eqb _ 0 c.if-work-index-eq0.true, c.noted.ensures)
 
-returns-2 : tie.Need-returns-2
-returns-2 c = rw (le-leb _ _ c.before.before.if1.true, ne_eqb _ 0 c.if2.false)
+returns-else-work-index-eq0 : tie.Need-returns-else-work-index-eq0
+returns-else-work-index-eq0 c = rw (le-leb _ _ c.if-k-n.true, ne_eqb _ 0 c.if-work-index-eq0.false)
 
-returns-3 : tie.Need-returns-3
-returns-3 c = rw (lt-leb _ _ c.if1.false)
+returns-else-k-n : tie.Need-returns-else-k-n
+returns-else-k-n c = rw (lt-leb _ _ c.if-k-n.false)
 
 pub is_empty_spec : {M : Type 1} → statement M
 is_empty_spec =
-    tie.close (tie.spec mul-if2 shared-slice-read-if2 noted-requires returns returns-2 returns-3)
+    tie.close (tie.spec offset_bounds-work-index bounds-work-index noted-requires returns-then-work-index-eq0 returns-else-work-index-eq0 returns-else-k-n)

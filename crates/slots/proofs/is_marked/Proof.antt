@@ -6,14 +6,14 @@ use Rattle.slots.proofs.is_marked.Tie as tie
 wide-requires : tie.Need-wide-requires
 wide-requires c κs = search rules
 
-mul-result : tie.Need-overflow-mul-result
-mul-result c = search rules
+offset_bounds-work-wide : tie.Need-offset_bounds-work-wide
+offset_bounds-work-wide c = search rules
 
-shared-slice-read-result : tie.Need-shared-slice-read-result
-shared-slice-read-result c = search rules
+bounds-work-wide : tie.Need-bounds-work-wide
+bounds-work-wide c = search rules
 
 returns : tie.Need-returns
-returns c = rw c.before.wide.ensures
+returns c = rw c.wide.ensures
 
 pub is_marked_spec : {M : Type 1} → statement M
-is_marked_spec = tie.close (tie.spec wide-requires mul-result shared-slice-read-result returns)
+is_marked_spec = tie.close (tie.spec wide-requires offset_bounds-work-wide bounds-work-wide returns)

@@ -4,28 +4,28 @@ use borrow.Author.Rules.{rules}
 use Rattle.slots.proofs.note.Statement.{statement}
 use Rattle.slots.proofs.note.Tie as tie
 
-mul-if1 : tie.Need-overflow-mul-if1
-mul-if1 c = search rules
+offset_bounds-lines-at : tie.Need-offset_bounds-lines-at
+offset_bounds-lines-at c = search rules
 
-slice-read-if1 : tie.Need-slice-read-if1
-slice-read-if1 c = search rules
+bounds-lines-at : tie.Need-bounds-lines-at
+bounds-lines-at c = search rules
 
-mul-lines : tie.Need-overflow-mul-lines
-mul-lines c = search rules
+offset_bounds-lines-at-then-h-lines : tie.Need-offset_bounds-lines-at-then-h-lines
+offset_bounds-lines-at-then-h-lines c = search rules
 
-slice-write-lines : tie.Need-slice-write-lines
-slice-write-lines c = search rules
+bounds-lines-at-then-h-lines : tie.Need-bounds-lines-at-then-h-lines
+bounds-lines-at-then-h-lines c = search rules
 
-same_length : tie.Need-same-length
-same_length c = search rules
+shape_of-lines : tie.Need-shape_of-lines
+shape_of-lines c = search rules
 
-returns : tie.Need-returns
-returns c = let a = c.before.before.args in note_less a.lines.now a.k a.h c.if1.true
+returns-then-h-lines : tie.Need-returns-then-h-lines
+returns-then-h-lines c = let a = c.args in note_less a.lines.now a.k a.h c.if-h-lines.true
 
-returns-2 : tie.Need-returns-2
-returns-2 c = let a = c.before.before.args in note_more a.lines.now a.k a.h c.if1.false
+returns-else-h-lines : tie.Need-returns-else-h-lines
+returns-else-h-lines c = let a = c.args in note_more a.lines.now a.k a.h c.if-h-lines.false
 
 pub note_spec : {M : Type 1} → statement M
 note_spec =
     tie.close
-    (tie.spec mul-if1 slice-read-if1 mul-lines slice-write-lines same_length returns returns-2)
+    (tie.spec offset_bounds-lines-at bounds-lines-at offset_bounds-lines-at-then-h-lines bounds-lines-at-then-h-lines shape_of-lines returns-then-h-lines returns-else-h-lines)

@@ -3,35 +3,35 @@ use borrow.Author.Rules.{rules}
 use Rattle.slots.proofs.noted.Statement.{statement}
 use Rattle.slots.proofs.noted.Tie as tie
 
-wide-requires : tie.Need-wide-requires
-wide-requires c κs = search rules
+wide-at-requires : tie.Need-wide-at-requires
+wide-at-requires c κs = search rules
 
-mul-result : tie.Need-overflow-mul-result
-mul-result c = search rules
+offset_bounds-columns-at : tie.Need-offset_bounds-columns-at
+offset_bounds-columns-at c = search rules
 
-shared-slice-read-result : tie.Need-shared-slice-read-result
-shared-slice-read-result c = search rules
+bounds-columns-at : tie.Need-bounds-columns-at
+bounds-columns-at c = search rules
 
-mul-result-2 : tie.Need-overflow-mul-result-2
-mul-result-2 c = search rules
+offset_bounds-rows-at : tie.Need-offset_bounds-rows-at
+offset_bounds-rows-at c = search rules
 
-shared-slice-read-result-2 : tie.Need-shared-slice-read-result-2
-shared-slice-read-result-2 c = search rules
+bounds-rows-at : tie.Need-bounds-rows-at
+bounds-rows-at c = search rules
 
-returns : tie.Need-returns
-returns c = rw (c.before.before.wide.ensures, c.before.if1.true)
+returns-then-across : tie.Need-returns-then-across
+returns-then-across c = rw (c.wide-at.ensures, c.if-across.true)
 
-returns-2 : tie.Need-returns-2
-returns-2 c = rw (c.before.before.wide.ensures, c.before.if1.false)
+returns-else-across : tie.Need-returns-else-across
+returns-else-across c = rw (c.wide-at.ensures, c.if-across.false)
 
 pub noted_spec : {M : Type 1} → statement M
 noted_spec =
     tie.close
     (tie.spec
-    wide-requires
-    mul-result
-    shared-slice-read-result
-    mul-result-2
-    shared-slice-read-result-2
-    returns
-    returns-2)
+    wide-at-requires
+    offset_bounds-columns-at
+    bounds-columns-at
+    offset_bounds-rows-at
+    bounds-rows-at
+    returns-then-across
+    returns-else-across)

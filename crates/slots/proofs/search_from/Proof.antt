@@ -6,40 +6,40 @@ use Rattle.slots.proofs.search_from.Tie as tie
 wide-requires : tie.Need-wide-requires
 wide-requires c κs = search rules
 
-mul-larger : tie.Need-overflow-mul-larger
-mul-larger c = search rules
+offset_bounds-rows-wide : tie.Need-offset_bounds-rows-wide
+offset_bounds-rows-wide c = search rules
 
-shared-slice-read-larger : tie.Need-shared-slice-read-larger
-shared-slice-read-larger c = search rules
+bounds-rows-wide : tie.Need-bounds-rows-wide
+bounds-rows-wide c = search rules
 
-wide-requires-2 : tie.Need-wide-requires-2
-wide-requires-2 c κs = search rules
+wide-requires-else-planned : tie.Need-wide-requires-else-planned
+wide-requires-else-planned c κs = search rules
 
-mul-larger-2 : tie.Need-overflow-mul-larger-2
-mul-larger-2 c = search rules
+offset_bounds-columns-wide : tie.Need-offset_bounds-columns-wide
+offset_bounds-columns-wide c = search rules
 
-shared-slice-read-larger-2 : tie.Need-shared-slice-read-larger-2
-shared-slice-read-larger-2 c = search rules
+bounds-columns-wide : tie.Need-bounds-columns-wide
+bounds-columns-wide c = search rules
 
 larger-requires : tie.Need-larger-requires
 larger-requires c κs = search rules
 
-returns : tie.Need-returns
-returns c = search rules
+returns-then-planned : tie.Need-returns-then-planned
+returns-then-planned c = search rules
 
-returns-2 : tie.Need-returns-2
-returns-2 c = rw c.before.before.before.before.before.if1.false (cc)
+returns-else-planned : tie.Need-returns-else-planned
+returns-else-planned c = rw c.if-planned.false (cc)
 
 pub search_from_spec : {M : Type 1} → statement M
 search_from_spec =
     tie.close
     (tie.spec
     wide-requires
-    mul-larger
-    shared-slice-read-larger
-    wide-requires-2
-    mul-larger-2
-    shared-slice-read-larger-2
+    offset_bounds-rows-wide
+    bounds-rows-wide
+    wide-requires-else-planned
+    offset_bounds-columns-wide
+    bounds-columns-wide
     larger-requires
-    returns
-    returns-2)
+    returns-then-planned
+    returns-else-planned)

@@ -8,62 +8,62 @@ use Rattle.slots.proofs.settle.Tie as tie
 
 -- Places of the code: the entry before a place that is taken, and where its slot is written.
 abbrev Taken : Type 0
-Taken = tie.After-slice-known5
+Taken = tie.After-slice_known-then-held-2-1
 
 abbrev slotted : Taken → tie.After-wide
 slotted c = c.before.before.before.before.before.before.before.before
 
-add-work : tie.Need-overflow-add-work
-add-work c = search rules
+overflow_add-work : tie.Need-overflow_add-work
+overflow_add-work c = search rules
 
 wide-requires : tie.Need-wide-requires
 wide-requires c κs = search rules
 
-mul-work : tie.Need-overflow-mul-work
-mul-work c = search rules
+offset_bounds-work-wide : tie.Need-offset_bounds-work-wide
+offset_bounds-work-wide c = search rules
 
-slice-write-work : tie.Need-slice-write-work
-slice-write-work c = search rules
+bounds-work-wide : tie.Need-bounds-work-wide
+bounds-work-wide c = search rules
 
 note-requires : tie.Need-note-requires
 note-requires c κs = search rules
 
-note-requires-2 : tie.Need-note-requires-2
-note-requires-2 c κs = search rules
+note-requires-then-held : tie.Need-note-requires-then-held
+note-requires-then-held c κs = search rules
 
-add-t12 : tie.Need-overflow-add-t12
-add-t12 c = search rules
+overflow_add-result : tie.Need-overflow_add-result
+overflow_add-result c = search rules
 
-add-t21 : tie.Need-overflow-add-t21
-add-t21 c = search rules
+overflow_add-result-then-held : tie.Need-overflow_add-result-then-held
+overflow_add-result-then-held c = search rules
 
-add-t22 : tie.Need-overflow-add-t22
-add-t22 c = search rules
+overflow_add-result-else-held : tie.Need-overflow_add-result-else-held
+overflow_add-result-else-held c = search rules
 
-same_length : tie.Need-same-length
-same_length c = search rules
+shape_of-work : tie.Need-shape_of-work
+shape_of-work c = search rules
 
-same-length-2 : tie.Need-same-length-2
-same-length-2 c = search rules
+shape_of-rows : tie.Need-shape_of-rows
+shape_of-rows c = search rules
 
-same-length-3 : tie.Need-same-length-3
-same-length-3 c = search rules
+shape_of-columns : tie.Need-shape_of-columns
+shape_of-columns c = search rules
 
-returns : tie.Need-returns
-returns c =
+returns-then-held : tie.Need-returns-then-held
+returns-then-held c =
     let a = (slotted c).before.before.before.before.before.args in
     let taken = (slotted c).before.if1.true in
     record {
       done = omega arith;
       used = rw taken (omega arith);
       written = rw (taken, (slotted c).wide.ensures) (ap (λ slot. set a.work.now a.walk.done slot) (omega arith));
-      noted-row = record { noted = rw taken c.before.before.before.before.before.before.note.ensures };
-      noted-column = record { noted = rw taken c.before.before.note2.ensures };
+      noted-row = record { noted = rw taken c.note.ensures };
+      noted-column = record { noted = rw taken c.note-then-held.ensures };
     }
 
-returns-2 : tie.Need-returns-2
-returns-2 c =
-    let taken = c.if1.false in
+returns-else-held : tie.Need-returns-else-held
+returns-else-held c =
+    let taken = c.if-held.false in
     record {
       done = omega arith;
       used = rw taken;
@@ -76,17 +76,17 @@ pub settle_spec : {M : Type 1} → statement M
 settle_spec =
     tie.close
     (tie.spec
-    add-work
+    overflow_add-work
     wide-requires
-    mul-work
-    slice-write-work
+    offset_bounds-work-wide
+    bounds-work-wide
     note-requires
-    note-requires-2
-    add-t12
-    add-t21
-    add-t22
-    same_length
-    same-length-2
-    same-length-3
-    returns
-    returns-2)
+    note-requires-then-held
+    overflow_add-result
+    overflow_add-result-then-held
+    overflow_add-result-else-held
+    shape_of-work
+    shape_of-rows
+    shape_of-columns
+    returns-then-held
+    returns-else-held)

@@ -13,12 +13,12 @@ entry-requires c κs = search rules
 read-requires : tie.Need-read-requires
 read-requires c κs = search rules
 
-returns : tie.Need-returns
+returns-then-p-eq0 : tie.Need-returns-then-p-eq0
 unfolding of_bits
-returns c = rw (eq-eqb _ _ c.if1.true)
+returns-then-p-eq0 c = rw (eq-eqb _ _ c.if-p-eq0.true)
 
-returns-2 : tie.Need-returns-2
-returns-2 c = rw (ne_eqb _ _ c.before.before.if1.false) (c.read.ensures ∙ ap clean c.before.entry.ensures)
+returns-else-p-eq0 : tie.Need-returns-else-p-eq0
+returns-else-p-eq0 c = rw (ne_eqb _ _ c.if-p-eq0.false) (c.read.ensures ∙ ap clean c.entry.ensures)
 
 pub coefficient_spec : {M : Type 1} → statement M
-coefficient_spec = tie.close (tie.spec entry-requires read-requires returns returns-2)
+coefficient_spec = tie.close (tie.spec entry-requires read-requires returns-then-p-eq0 returns-else-p-eq0)

@@ -9,22 +9,22 @@ use borrow.Author.Rules.{rules}
 use Rattle.state.proofs.entry.Statement.{statement}
 use Rattle.state.proofs.entry.Tie as tie
 
-wide-requires : tie.Need-wide-requires
-wide-requires c κs = search rules
+wide-at-requires : tie.Need-wide-at-requires
+wide-at-requires c κs = search rules
 
-sub_at : tie.Need-overflow-sub-at
-sub_at c = search rules
+overflow_sub-at : tie.Need-overflow_sub-at
+overflow_sub-at c = search rules
 
-mul-result : tie.Need-overflow-mul-result
-mul-result c = search rules
+offset_bounds-values-at : tie.Need-offset_bounds-values-at
+offset_bounds-values-at c = search rules
 
-shared-slice-read-result : tie.Need-shared-slice-read-result
-shared-slice-read-result c = search rules
+bounds-values-at : tie.Need-bounds-values-at
+bounds-values-at c = search rules
 
 returns : tie.Need-returns
 returns c =
-    let a = c.before.before.before.args in
-    get_or-within a.values.now (c.before.wide.result - 1) _ _ (omega arith) ∙ ap (λ k. get_or a.values.now (k - 1) plus_zero) c.before.wide.ensures
+    let a = c.args in
+    get_or-within a.values.now (c.wide-at.result - 1) _ _ (omega arith) ∙ ap (λ k. get_or a.values.now (k - 1) plus_zero) c.wide-at.ensures
 
 pub entry_spec : {M : Type 1} → statement M
-entry_spec = tie.close (tie.spec wide-requires sub_at mul-result shared-slice-read-result returns)
+entry_spec = tie.close (tie.spec wide-at-requires overflow_sub-at offset_bounds-values-at bounds-values-at returns)

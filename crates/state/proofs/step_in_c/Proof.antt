@@ -18,14 +18,14 @@ use Rattle.state.proofs.step_in_c.Statement.{statement}
 use Rattle.state.proofs.step_in_c.Tie as tie
 
 -- the entry, seen from where the lent slices are known
-abbrev start : tie.After-slice-known → tie.Start
+abbrev start : tie.After-slice_known-1 → tie.Start
 start c = c.before.before
 
 -- a kind that is none of the others here is 9
-pivot : (c : tie.At-match-rest) → (start c.before).args.kind ≡ 9
+pivot : (c : tie.In_default) → (start c.before).args.kind ≡ 9
 pivot c =
     let pre = (start c.before).requires in
-    let other = c.match.rest in
+    let other = c.in_default.rest in
     pivot-left _ _ pre.ready.own pre.in_c pre.works_on other.0.0.0.1 other.0.0.1 other.0.1 other.1
 
 -- no Y and X are lent, so none are left
@@ -34,7 +34,7 @@ none_lent z c y x w no_y no-x is = ap₂ (state_of z c) (sym (no_entries y no_y)
 
 coefficient-requires : tie.Need-coefficient-requires
 unfolding kind_of
-coefficient-requires c κs = allowed_as (start c.before).requires.ready (ap kind_of c.match.keys1)
+coefficient-requires c κs = allowed_as (start c.before).requires.ready (ap kind_of c.in-1.keys1)
 
 open-requires : tie.Need-open-requires
 open-requires c κs = search rules
@@ -42,117 +42,117 @@ open-requires c κs = search rules
 entry-requires : tie.Need-entry-requires
 unfolding kind_of
 entry-requires c κs =
-    let ready = (start c.before.before).requires.ready in
-    let of = allowed_as ready (ap kind_of c.before.match.keys2) in
+    let ready = (start c.before).requires.ready in
+    let of = allowed_as ready (ap kind_of c.in-4.keys2) in
     omega (arith, ready.sound.in_c)
 
-entry-requires-2 : tie.Need-entry-requires-2
+entry-requires-in-4 : tie.Need-entry-requires-in-4
 unfolding kind_of
-entry-requires-2 c κs =
-    let ready = (start c.before.before.before.before).requires.ready in
-    let of = allowed_as ready (ap kind_of c.before.before.before.match.keys2) in
+entry-requires-in-4 c κs =
+    let ready = (start c.before.before).requires.ready in
+    let of = allowed_as ready (ap kind_of c.in-4.keys2) in
     omega (arith, ready.sound.in_c)
 
 subtract-requires : tie.Need-subtract-requires
-subtract-requires c κs = let ready = (start c.before.before.before.before.before).requires.ready in omega (arith, ready.few, ready.gone)
+subtract-requires c κs = let ready = (start c.before.before.before).requires.ready in omega (arith, ready.few, ready.gone)
 
-entry-requires-3 : tie.Need-entry-requires-3
+entry-requires-in-7 : tie.Need-entry-requires-in-7
 unfolding kind_of
-entry-requires-3 c κs =
-    let ready = (start c.before.before).requires.ready in
-    let of = allowed_as ready (ap kind_of c.before.match.keys3) in
+entry-requires-in-7 c κs =
+    let ready = (start c.before).requires.ready in
+    let of = allowed_as ready (ap kind_of c.in-7.keys3) in
     omega (arith, ready.sound.in_c)
 
 divide-requires : tie.Need-divide-requires
-divide-requires c κs = let ready = (start c.before.before.before).requires.ready in omega (arith, ready.few)
+divide-requires c κs = let ready = (start c.before.before).requires.ready in omega (arith, ready.few)
 
-slice-aggregate-close : tie.Need-slice-aggregate-close
-slice-aggregate-close c = search rules
+slice_bounds-close-end : tie.Need-slice_bounds-close-end
+slice_bounds-close-end c = search rules
 
-slice-aggregate-close-2 : tie.Need-slice-aggregate-close-2
-slice-aggregate-close-2 c = search rules
+slice_bounds-close-end-in-8 : tie.Need-slice_bounds-close-end-in-8
+slice_bounds-close-end-in-8 c = search rules
 
 close-requires : tie.Need-close-requires
 unfolding kind_of
 close-requires c κs =
     let s = start c.before.before.before.before in
-    (s.pre.ready.sound, allowed_as s.pre.ready (ap kind_of c.before.before.before.match.keys4))
+    (s.pre.ready.sound, allowed_as s.pre.ready (ap kind_of c.in-8.keys4))
 
-is-small-requires : tie.Need-is-small-requires
-is-small-requires c κs = search rules
+is_small-small-requires : tie.Need-is_small-small-requires
+is_small-small-requires c κs = search rules
 
-slice-aggregate-close-3 : tie.Need-slice-aggregate-close-3
-slice-aggregate-close-3 c = search rules
+slice_bounds-close-end-else-small : tie.Need-slice_bounds-close-end-else-small
+slice_bounds-close-end-else-small c = search rules
 
-slice-aggregate-close-4 : tie.Need-slice-aggregate-close-4
-slice-aggregate-close-4 c = search rules
+slice_bounds-close-end-else-small-2 : tie.Need-slice_bounds-close-end-else-small-2
+slice_bounds-close-end-else-small-2 c = search rules
 
-close-requires-2 : tie.Need-close-requires-2
+close-requires-else-small : tie.Need-close-requires-else-small
 unfolding kind_of
-close-requires-2 c κs =
+close-requires-else-small c κs =
     let s = start c.before.before.before.before.before.before in
     (s.pre.ready.sound, allowed_as s.pre.ready (ap kind_of (pivot c.before.before.before.before.before)))
 
-returns : tie.Need-returns
+returns-in-1 : tie.Need-returns-in-1
 unfolding kind_of step starting
-returns c =
+returns-in-1 c =
     let s = start c.before.before.before in
     let a = s.args in
     gives_open a.a.now [] a.limit a.c.now [] [] a.z s.pre.ready.sound (kind_of a.kind) a.p a.q C a.q _ _ refl
-    (ap kind_of c.before.before.match.keys1) c.«open».ensures c.before.coefficient.ensures
+    (ap kind_of c.in-1.keys1) c.«open».ensures c.coefficient.ensures
 
-same_length : tie.Need-same-length
-same_length c = search rules
+shape_of-c-in-4 : tie.Need-shape_of-c-in-4
+shape_of-c-in-4 c = search rules
 
-returns-2 : tie.Need-returns-2
+returns-in-4 : tie.Need-returns-in-4
 unfolding kind_of
-returns-2 c =
-    let s = start c.before.before.before.before.before.before in
-    let a = s.args in
-    let of = allowed_as s.pre.ready (ap kind_of c.before.before.before.before.before.match.keys2) in
-    gives_subtract a.a.now [] a.limit a.c.now [] [] a.z s.pre.ready.sound (kind_of a.kind) a.p a.q C _ _ _
-    (ap kind_of c.before.before.before.before.before.match.keys2) c.subtract.ensures
-    (c.before.before.before.entry.ensures ∙ entry-c a.z a.c.now [] [] a.p of.0)
-    (c.before.entry2.ensures ∙ entry-c a.z a.c.now [] [] a.q of.1)
-
-same-length-2 : tie.Need-same-length-2
-same-length-2 c = search rules
-
-returns-3 : tie.Need-returns-3
-unfolding kind_of
-returns-3 c =
+returns-in-4 c =
     let s = start c.before.before.before.before in
     let a = s.args in
-    let of = allowed_as s.pre.ready (ap kind_of c.before.before.before.match.keys3) in
+    let of = allowed_as s.pre.ready (ap kind_of c.in-4.keys2) in
+    gives_subtract a.a.now [] a.limit a.c.now [] [] a.z s.pre.ready.sound (kind_of a.kind) a.p a.q C _ _ _
+    (ap kind_of c.in-4.keys2) c.subtract.ensures
+    (c.entry.ensures ∙ entry-c a.z a.c.now [] [] a.p of.0)
+    (c.entry-in-4.ensures ∙ entry-c a.z a.c.now [] [] a.q of.1)
+
+shape_of-c-in-7 : tie.Need-shape_of-c-in-7
+shape_of-c-in-7 c = search rules
+
+returns-in-7 : tie.Need-returns-in-7
+unfolding kind_of
+returns-in-7 c =
+    let s = start c.before.before.before in
+    let a = s.args in
+    let of = allowed_as s.pre.ready (ap kind_of c.in-7.keys3) in
     gives_divide a.a.now [] a.limit a.c.now [] [] a.z s.pre.ready.sound (kind_of a.kind) a.p a.q _ _
-    (ap kind_of c.before.before.before.match.keys3) c.divide.ensures
-    (c.before.entry3.ensures ∙ entry-c a.z a.c.now [] [] a.p of)
+    (ap kind_of c.in-7.keys3) c.divide.ensures
+    (c.entry-in-7.ensures ∙ entry-c a.z a.c.now [] [] a.p of)
 
-same-length-3 : tie.Need-same-length-3
-same-length-3 c = search rules
+shape_of-c-in-8 : tie.Need-shape_of-c-in-8
+shape_of-c-in-8 c = search rules
 
-returns-4 : tie.Need-returns-4
+returns-in-8 : tie.Need-returns-in-8
 unfolding kind_of step
-returns-4 c =
-    let f = c.before.before.before.before.close in
+returns-in-8 c =
+    let f = c.close in
     let last = f.new.1 in
-    rw c.before.before.before.before.before.before.before.before.match.keys4
+    rw c.in-8.keys4
     (ap going (none_lent f.result last.0 last.1.0 last.1.1.0 _ f.auto.1.1.0 f.auto.1.1.1.0 f.ensures.0), f.ensures.1)
 
-returns-5 : tie.Need-returns-5
+returns-then-small : tie.Need-returns-then-small
 unfolding kind_of step
-returns-5 c = rw (pivot c.before.before, sym c.before.is-small.ensures ∙ c.if1.true) (refl, tt)
+returns-then-small c = rw (pivot c.before.before, sym c.is_small-small.ensures ∙ c.if-small.true) (refl, tt)
 
-same-length-4 : tie.Need-same-length-4
-same-length-4 c = search rules
+shape_of-c-else-small : tie.Need-shape_of-c-else-small
+shape_of-c-else-small c = search rules
 
-returns-6 : tie.Need-returns-6
+returns-else-small : tie.Need-returns-else-small
 unfolding kind_of step
-returns-6 c =
-    let f = c.before.before.before.before.close2 in
+returns-else-small c =
+    let f = c.close-else-small in
     let last = f.new.1 in
     let tested = c.before.before.before.before.before.before.before.before in
-    rw (pivot tested.before.before, sym tested.before.is-small.ensures ∙ tested.if1.false)
+    rw (pivot tested.before.before, sym tested.is_small-small.ensures ∙ tested.if-small.false)
     (ap going (none_lent f.result last.0 last.1.0 last.1.1.0 _ f.auto.1.1.0 f.auto.1.1.1.0 f.ensures.0), f.ensures.1)
 
 pub step_in_c_spec : {M : Type 1} → statement M
@@ -162,24 +162,24 @@ step_in_c_spec =
     coefficient-requires
     open-requires
     entry-requires
-    entry-requires-2
+    entry-requires-in-4
     subtract-requires
-    entry-requires-3
+    entry-requires-in-7
     divide-requires
-    slice-aggregate-close
-    slice-aggregate-close-2
+    slice_bounds-close-end
+    slice_bounds-close-end-in-8
     close-requires
-    is-small-requires
-    slice-aggregate-close-3
-    slice-aggregate-close-4
-    close-requires-2
-    returns
-    same_length
-    returns-2
-    same-length-2
-    returns-3
-    same-length-3
-    returns-4
-    returns-5
-    same-length-4
-    returns-6)
+    is_small-small-requires
+    slice_bounds-close-end-else-small
+    slice_bounds-close-end-else-small-2
+    close-requires-else-small
+    returns-in-1
+    shape_of-c-in-4
+    returns-in-4
+    shape_of-c-in-7
+    returns-in-7
+    shape_of-c-in-8
+    returns-in-8
+    returns-then-small
+    shape_of-c-else-small
+    returns-else-small)

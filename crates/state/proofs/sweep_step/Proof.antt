@@ -8,15 +8,15 @@ use Rattle.state.proofs.sweep_step.Statement.{statement}
 use Rattle.state.proofs.sweep_step.Tie as tie
 
 -- Places of the code: the entry, seen from where the lent slices are known; and where a row is closed, with the kind that does it.
-abbrev start : tie.After-slice-known → tie.Start
+abbrev start : tie.After-slice_known-1 → tie.Start
 start c = c.before.before.before
 
-closing : (c : tie.At-match-rest) → kind_of (start c.before).args.kind ≡ closes
-closing c = only_closes (start c.before).requires.own c.match.rest.0.0.1 c.match.rest.0.1 c.match.rest.1
+closing : (c : tie.In_default) → kind_of (start c.before).args.kind ≡ closes
+closing c = only_closes (start c.before).requires.own c.in_default.rest.0.0.1 c.in_default.rest.0.1 c.in_default.rest.1
 
 entry-requires : tie.Need-entry-requires
 unfolding kind_of
-entry-requires c κs = (allowed-row (start c.before).requires (ap kind_of c.match.keys1)).1
+entry-requires c κs = (allowed-row (start c.before).requires (ap kind_of c.in-10.keys1)).1
 
 read-requires : tie.Need-read-requires
 read-requires c κs = search rules
@@ -24,26 +24,26 @@ read-requires c κs = search rules
 open-requires : tie.Need-open-requires
 open-requires c κs = search rules
 
-entry-requires-2 : tie.Need-entry-requires-2
+entry-requires-in-11 : tie.Need-entry-requires-in-11
 unfolding kind_of
-entry-requires-2 c κs = (allowed-row (start c.before).requires (ap kind_of c.match.keys2)).1
+entry-requires-in-11 c κs = (allowed-row (start c.before).requires (ap kind_of c.in-11.keys2)).1
 
-read-requires-2 : tie.Need-read-requires-2
-read-requires-2 c κs = search rules
+read-requires-in-11 : tie.Need-read-requires-in-11
+read-requires-in-11 c κs = search rules
 
-entry-requires-3 : tie.Need-entry-requires-3
+entry-requires-in-11-2 : tie.Need-entry-requires-in-11-2
 unfolding kind_of
-entry-requires-3 c κs = (allowed-row (start c.before.before.before.before).requires (ap kind_of c.before.before.before.match.keys2)).2
+entry-requires-in-11-2 c κs = (allowed-row (start c.before.before.before).requires (ap kind_of c.in-11.keys2)).2
 
 subtract-requires : tie.Need-subtract-requires
 subtract-requires c κs = search rules
 
-entry-requires-4 : tie.Need-entry-requires-4
+entry-requires-in-12 : tie.Need-entry-requires-in-12
 unfolding kind_of
-entry-requires-4 c κs = allowed-row (start c.before).requires (ap kind_of c.match.keys3)
+entry-requires-in-12 c κs = allowed-row (start c.before).requires (ap kind_of c.in-12.keys3)
 
-read-requires-3 : tie.Need-read-requires-3
-read-requires-3 c κs = search rules
+read-requires-in-12 : tie.Need-read-requires-in-12
+read-requires-in-12 c κs = search rules
 
 divide-requires : tie.Need-divide-requires
 divide-requires c κs = search rules
@@ -51,39 +51,39 @@ divide-requires c κs = search rules
 settle-requires : tie.Need-settle-requires
 settle-requires c κs = (allowed-row (start c.before.before).requires (closing c.before)).1
 
-returns : tie.Need-returns
+returns-in-10 : tie.Need-returns-in-10
 unfolding kind_of
-returns c =
+returns-in-10 c =
     let s = start c.before.before.before.before in
     let a = s.args in
     row_opens a.a.now a.b.now a.limit a.x.now a.z a.kind a.p a.q s.pre _ _
-    (ap kind_of c.before.before.before.match.keys1) c.«open».ensures (c.before.read.ensures ∙ ap clean c.before.before.entry.ensures)
+    (ap kind_of c.in-10.keys1) c.«open».ensures (c.read.ensures ∙ ap clean c.entry.ensures)
 
-same_length : tie.Need-same-length
-same_length c = search rules
+shape_of-x-in-11 : tie.Need-shape_of-x-in-11
+shape_of-x-in-11 c = search rules
 
-returns-2 : tie.Need-returns-2
+returns-in-11 : tie.Need-returns-in-11
 unfolding kind_of
-returns-2 c =
-    let s = start c.before.before.before.before.before.before in
+returns-in-11 c =
+    let s = start c.before.before.before.before.before in
     let a = s.args in
     row-subtracts a.a.now a.b.now a.limit a.x.now a.z a.kind a.p a.q s.pre _ _ _
-    (ap kind_of c.before.before.before.before.before.match.keys2) c.subtract.ensures
-    (c.before.before.before.read2.ensures ∙ ap clean c.before.before.before.before.entry2.ensures) c.before.entry3.ensures
+    (ap kind_of c.in-11.keys2) c.subtract.ensures
+    (c.read-in-11.ensures ∙ ap clean c.entry-in-11.ensures) c.entry-in-11-2.ensures
 
-returns-3 : tie.Need-returns-3
+returns-in-12 : tie.Need-returns-in-12
 unfolding kind_of
-returns-3 c =
+returns-in-12 c =
     let s = start c.before.before.before.before in
     let a = s.args in
     row-divides a.a.now a.b.now a.limit a.x.now a.z a.kind a.p a.q s.pre _ _
-    (ap kind_of c.before.before.before.match.keys3) c.divide.ensures (c.before.read3.ensures ∙ ap clean c.before.before.entry4.ensures)
+    (ap kind_of c.in-12.keys3) c.divide.ensures (c.read-in-12.ensures ∙ ap clean c.entry-in-12.ensures)
 
-same-length-2 : tie.Need-same-length-2
-same-length-2 c = search rules
+shape_of-x-in_default : tie.Need-shape_of-x-in_default
+shape_of-x-in_default c = search rules
 
-returns-4 : tie.Need-returns-4
-returns-4 c =
+returns-in_default : tie.Need-returns-in_default
+returns-in_default c =
     let call = c.before.before in
     let s = start call.before.before.before in
     let a = s.args in
@@ -97,17 +97,17 @@ sweep_step_spec =
     entry-requires
     read-requires
     open-requires
-    entry-requires-2
-    read-requires-2
-    entry-requires-3
+    entry-requires-in-11
+    read-requires-in-11
+    entry-requires-in-11-2
     subtract-requires
-    entry-requires-4
-    read-requires-3
+    entry-requires-in-12
+    read-requires-in-12
     divide-requires
     settle-requires
-    returns
-    same_length
-    returns-2
-    returns-3
-    same-length-2
-    returns-4)
+    returns-in-10
+    shape_of-x-in-11
+    returns-in-11
+    returns-in-12
+    shape_of-x-in_default
+    returns-in_default)

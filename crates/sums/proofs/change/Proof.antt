@@ -8,80 +8,80 @@ use Rattle.sums.proofs.Carry.{start, carry_on, carried_over, row-changed}
 use Rattle.sums.proofs.change.Statement.{statement}
 use Rattle.sums.proofs.change.Tie as tie
 
-abbrev invariant-loop : tie.invariant-loop
-invariant-loop words₀ at word minus i₀ carry₀ words i carry =
+abbrev invariant-loop-i : tie.invariant-loop-i
+invariant-loop-i words₀ at word minus i₀ carry₀ words i carry =
     (length words ≡ length words₀) × Carrying minus (joined64 words₀) (word * 2 ^ (64 * at)) (joined64 words) (carry * 2 ^ (64 * i))
 
-abbrev decreases-loop : tie.decreases-loop
-decreases-loop words₀ at word minus i₀ carry₀ words i carry = length words - i
+abbrev decreases-loop-i : tie.decreases-loop-i
+decreases-loop-i words₀ at word minus i₀ carry₀ words i carry = length words - i
 
-loop-holds : tie.Need-loop-init invariant-loop decreases-loop
-loop-holds c = (refl, start c.before.args.minus _ _)
+loop-holds : tie.Need-loop-i-init invariant-loop-i decreases-loop-i
+loop-holds c = (refl, start c.args.minus _ _)
 
-mul-changed : tie.Need-overflow-mul-changed invariant-loop decreases-loop
-mul-changed c = search rules
+offset_bounds-words-i : tie.Need-offset_bounds-words-i invariant-loop-i decreases-loop-i
+offset_bounds-words-i c = search rules
 
-slice-read-changed : tie.Need-slice-read-changed invariant-loop decreases-loop
-slice-read-changed c = search rules
+bounds-words-i : tie.Need-bounds-words-i invariant-loop-i decreases-loop-i
+bounds-words-i c = search rules
 
-changed-requires : tie.Need-changed-requires invariant-loop decreases-loop
-changed-requires c κs = search rules
+changed-next-requires : tie.Need-changed-next-requires invariant-loop-i decreases-loop-i
+changed-next-requires c κs = search rules
 
-mul_words : tie.Need-overflow-mul-words invariant-loop decreases-loop
-mul_words c = search rules
+offset_bounds-words-i-in-loop-i : tie.Need-offset_bounds-words-i-in-loop-i invariant-loop-i decreases-loop-i
+offset_bounds-words-i-in-loop-i c = search rules
 
-slice-write-words : tie.Need-slice-write-words invariant-loop decreases-loop
-slice-write-words c = search rules
+bounds-words-i-in-loop-i : tie.Need-bounds-words-i-in-loop-i invariant-loop-i decreases-loop-i
+bounds-words-i-in-loop-i c = search rules
 
-add-i : tie.Need-overflow-add-i invariant-loop decreases-loop
-add-i c = search rules
+overflow_add-i : tie.Need-overflow_add-i invariant-loop-i decreases-loop-i
+overflow_add-i c = search rules
 
-loop-less : tie.Need-loop-smaller invariant-loop decreases-loop
+loop-less : tie.Need-loop-i-smaller invariant-loop-i decreases-loop-i
 loop-less c = simp length-set (omega arith)
 
-loop-again : tie.Need-loop-preserved invariant-loop decreases-loop
+loop-again : tie.Need-loop-i-preserved invariant-loop-i decreases-loop-i
 loop-again c =
-    let l = c.before.before.before.before.loop in
-    let a = c.before.before.before.before.before.before.args in (
+    let l = c.loop-i in
+    let a = c.args in (
       simp length-set l.invariant.0,
-      carry_on a.minus a.words.now l.words _ l.i _ _ _ c.changed.result.carry refl (omega arith) l.invariant.1 c.changed.ensures.0,
+      carry_on a.minus a.words.now l.words _ l.i _ _ _ c.changed-next.result.carry refl (omega arith) l.invariant.1 c.changed-next.ensures.0,
     )
 
-same_length : tie.Need-same-length invariant-loop decreases-loop
-same_length c = search rules
+shape_of-words-else-carry-ne0 : tie.Need-shape_of-words-else-carry-ne0 invariant-loop-i decreases-loop-i
+shape_of-words-else-carry-ne0 c = search rules
 
-returns : tie.Need-returns invariant-loop decreases-loop
-returns c =
-    let l = c.before.before.loop in
-    let a = c.before.before.before.before.args in
-    let none = eqb-true l.carry 0 (not-false _ c.if1.false) in
+returns-else-carry-ne0 : tie.Need-returns-else-carry-ne0 invariant-loop-i decreases-loop-i
+returns-else-carry-ne0 c =
+    let l = c.loop-i in
+    let a = c.args in
+    let none = eqb-true l.carry 0 (not-false _ c.if-carry-ne0.false) in
     row-changed a.minus a.words.now l.words _ _ 0 l.invariant.0 (omega (arith, ap (λ k. k * 2 ^ (64 * l.i)) none)) l.invariant.1
 
-same-length-2 : tie.Need-same-length-2 invariant-loop decreases-loop
-same-length-2 c = search rules
+shape_of-words-after-loop-i : tie.Need-shape_of-words-after-loop-i invariant-loop-i decreases-loop-i
+shape_of-words-after-loop-i c = search rules
 
-returns-2 : tie.Need-returns-2 invariant-loop decreases-loop
-returns-2 c =
-    let l = c.before.loop in
-    let a = c.before.before.before.args in
+returns-after-loop-i : tie.Need-returns-after-loop-i invariant-loop-i decreases-loop-i
+returns-after-loop-i c =
+    let l = c.loop-i in
+    let a = c.args in
     row-changed a.minus a.words.now l.words _ _ _ l.invariant.0 (carried_over l.carry l.i (length a.words.now) (omega arith)) l.invariant.1
 
 pub change_spec : {M : Type 1} → statement M
 change_spec =
     tie.close
     (tie.spec
-    invariant-loop
-    decreases-loop
+    invariant-loop-i
+    decreases-loop-i
     loop-holds
-    mul-changed
-    slice-read-changed
-    changed-requires
-    mul_words
-    slice-write-words
-    add-i
+    offset_bounds-words-i
+    bounds-words-i
+    changed-next-requires
+    offset_bounds-words-i-in-loop-i
+    bounds-words-i-in-loop-i
+    overflow_add-i
     loop-less
     loop-again
-    same_length
-    returns
-    same-length-2
-    returns-2)
+    shape_of-words-else-carry-ne0
+    returns-else-carry-ne0
+    shape_of-words-after-loop-i
+    returns-after-loop-i)

@@ -4,85 +4,85 @@ use Rattle.sums.proofs.Carry.{upper_fits, upper_small, three_words, changed_on}
 use Rattle.sums.proofs.change_wide.Statement.{statement}
 use Rattle.sums.proofs.change_wide.Tie as tie
 
-cast-at : tie.Need-overflow-cast-at
-cast-at c = search rules
+overflow_cast-at : tie.Need-overflow_cast-at
+overflow_cast-at c = search rules
 
-cast-middle : tie.Need-overflow-cast-middle
-cast-middle c = search rules
+overflow_cast-middle : tie.Need-overflow_cast-middle
+overflow_cast-middle c = search rules
 
-shl-middle : tie.Need-overflow-shl-middle
-shl-middle c = search rules
+overflow_shl-middle : tie.Need-overflow_shl-middle
+overflow_shl-middle c = search rules
 
-sub-middle : tie.Need-overflow-sub-middle
-sub-middle c = search rules
+overflow_sub-middle : tie.Need-overflow_sub-middle
+overflow_sub-middle c = search rules
 
-cast-middle-2 : tie.Need-overflow-cast-middle-2
-cast-middle-2 c = search rules
+overflow_cast-middle-2 : tie.Need-overflow_cast-middle-2
+overflow_cast-middle-2 c = search rules
 
-shr-middle : tie.Need-overflow-shr-middle
-shr-middle c = search rules
+overflow_shr-middle : tie.Need-overflow_shr-middle
+overflow_shr-middle c = search rules
 
-add-middle : tie.Need-overflow-add-middle
-add-middle c =
-    let a = c.before.before.before.args in
+overflow_add-middle : tie.Need-overflow_add-middle
+overflow_add-middle c =
+    let a = c.args in
     omega (arith, upper_fits a.wide.low a.wide.high (a.shift % 64) (omega arith) (omega arith))
 
-cast-change-three : tie.Need-overflow-cast-change-three
-cast-change-three c = search rules
+overflow_cast-by : tie.Need-overflow_cast-by
+overflow_cast-by c = search rules
 
-shl-change-three : tie.Need-overflow-shl-change-three
-shl-change-three c = search rules
+overflow_shl-wide : tie.Need-overflow_shl-wide
+overflow_shl-wide c = search rules
 
-sub-change-three : tie.Need-overflow-sub-change-three
-sub-change-three c = search rules
+overflow_sub-by : tie.Need-overflow_sub-by
+overflow_sub-by c = search rules
 
-cast-change-three-2 : tie.Need-overflow-cast-change-three-2
-cast-change-three-2 c = search rules
+overflow_cast-by-2 : tie.Need-overflow_cast-by-2
+overflow_cast-by-2 c = search rules
 
-shr-change-three : tie.Need-overflow-shr-change-three
-shr-change-three c = search rules
+overflow_shr-wide : tie.Need-overflow_shr-wide
+overflow_shr-wide c = search rules
 
-change-three-requires : tie.Need-change-three-requires
-change-three-requires c κs =
-    let a = c.before.before.before.before.before.before.args in
+change_three-carry-requires : tie.Need-change_three-carry-requires
+change_three-carry-requires c κs =
+    let a = c.args in
     (omega arith, upper_small a.wide.high (a.shift % 64) (omega arith))
 
-add-change : tie.Need-overflow-add-change
-add-change c = search rules
+overflow_add-at : tie.Need-overflow_add-at
+overflow_add-at c = search rules
 
 change-requires : tie.Need-change-requires
 change-requires c κs = search rules
 
-same_length : tie.Need-same-length
-same_length c = search rules
+shape_of-words : tie.Need-shape_of-words
+shape_of-words c = search rules
 
 returns : tie.Need-returns
 returns c =
     let last = c.before.before in
     let three = last.before.before.before.before in
-    let a = three.before.before.before.before.before.before.before.args in
-    changed_on a.minus a.words.now three.change-three.new.0 last.change.new.0 _ _ _
+    let a = three.args in
+    changed_on a.minus a.words.now three.change_three-carry.new.0 last.change.new.0 _ _ _
     (three_words a.wide.low a.wide.high a.shift) (omega arith)
-    three.change-three.ensures last.change.ensures
+    three.change_three-carry.ensures last.change.ensures
 
 pub change_wide_spec : {M : Type 1} → statement M
 change_wide_spec =
     tie.close
     (tie.spec
-    cast-at
-    cast-middle
-    shl-middle
-    sub-middle
-    cast-middle-2
-    shr-middle
-    add-middle
-    cast-change-three
-    shl-change-three
-    sub-change-three
-    cast-change-three-2
-    shr-change-three
-    change-three-requires
-    add-change
+    overflow_cast-at
+    overflow_cast-middle
+    overflow_shl-middle
+    overflow_sub-middle
+    overflow_cast-middle-2
+    overflow_shr-middle
+    overflow_add-middle
+    overflow_cast-by
+    overflow_shl-wide
+    overflow_sub-by
+    overflow_cast-by-2
+    overflow_shr-wide
+    change_three-carry-requires
+    overflow_add-at
     change-requires
-    same_length
+    shape_of-words
     returns)

@@ -7,24 +7,24 @@ use Rattle.sums.proofs.changed.Tie as tie
 inverted-requires : tie.Need-inverted-requires
 inverted-requires c κs = search rules
 
-wrapping-add-u64-requires : tie.Need-wrapping-add-u64-requires
-wrapping-add-u64-requires c κs = search rules
+wrapping_add_u64-sum-requires : tie.Need-wrapping_add_u64-sum-requires
+wrapping_add_u64-sum-requires c κs = search rules
 
 inverted-requires-2 : tie.Need-inverted-requires-2
 inverted-requires-2 c κs = search rules
 
-cast-t7 : tie.Need-overflow-cast-t7
-cast-t7 c = search rules
+overflow_cast-result : tie.Need-overflow_cast-result
+overflow_cast-result c = search rules
 
 returns : tie.Need-returns
 returns c =
     let sum = c.before in
     let first = sum.before in
-    let a = first.before.args in
-    rw c.inverted2.ensures
-    (word-changed a.minus a.word a.by _ (omega arith) (omega arith) (sum.wrapping-add-u64.ensures ∙ ap (λ k. (k + a.by) % 2 ^ 64) first.inverted.ensures))
+    let a = first.args in
+    rw c.inverted-2.ensures
+    (word-changed a.minus a.word a.by _ (omega arith) (omega arith) (sum.wrapping_add_u64-sum.ensures ∙ ap (λ k. (k + a.by) % 2 ^ 64) first.inverted.ensures))
 
 pub changed_spec : {M : Type 1} → statement M
 changed_spec =
     tie.close
-    (tie.spec inverted-requires wrapping-add-u64-requires inverted-requires-2 cast-t7 returns)
+    (tie.spec inverted-requires wrapping_add_u64-sum-requires inverted-requires-2 overflow_cast-result returns)

@@ -3,14 +3,14 @@ use Rattle.std.proofs.Common.{rules}
 use Rattle.sums.proofs.inverted.Statement.{statement}
 use Rattle.sums.proofs.inverted.Tie as tie
 
-sub-result : tie.Need-overflow-sub-result
-sub-result c = search rules
+overflow_sub-result : tie.Need-overflow_sub-result
+overflow_sub-result c = search rules
 
-returns : tie.Need-returns
-returns c = rw c.if1.true
+returns-then-minus : tie.Need-returns-then-minus
+returns-then-minus c = rw c.if-minus.true
 
-returns-2 : tie.Need-returns-2
-returns-2 c = search rules
+returns-else-minus : tie.Need-returns-else-minus
+returns-else-minus c = search rules
 
 pub inverted_spec : {M : Type 1} → statement M
-inverted_spec = tie.close (tie.spec sub-result returns returns-2)
+inverted_spec = tie.close (tie.spec overflow_sub-result returns-then-minus returns-else-minus)

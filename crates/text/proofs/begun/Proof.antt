@@ -8,31 +8,31 @@ use Rattle.text.proofs.Bytes.{begun-other, begun-full, begun_digit}
 use Rattle.text.proofs.begun.Statement.{statement}
 use Rattle.text.proofs.begun.Tie as tie
 
-is-digit-requires : tie.Need-is-digit-requires
-is-digit-requires c κs = search rules
+is_digit-requires : tie.Need-is_digit-requires
+is_digit-requires c κs = search rules
 
 parted-requires : tie.Need-parted-requires
 parted-requires c κs = search rules
 
-returns : tie.Need-returns
-returns c = c.parted.ensures ∙ begun-other _ _ _ (sym c.before.before.is_digit.ensures ∙ not-true _ c.before.if1.true)
+returns-then-not-is_digit : tie.Need-returns-then-not-is_digit
+returns-then-not-is_digit c = c.parted.ensures ∙ begun-other _ _ _ (sym c.is_digit.ensures ∙ not-true _ c.if-not-is_digit.true)
 
-a_digit : (c : tie.Else1) → is_digit c.before.before.args.byte ≡ true
-a_digit c = sym c.before.is_digit.ensures ∙ not-false _ c.if1.false
+a_digit : (c : tie.Else-not-is_digit) → is_digit c.args.byte ≡ true
+a_digit c = sym c.is_digit.ensures ∙ not-false _ c.if-not-is_digit.false
 
-returns-2 : tie.Need-returns-2
-returns-2 c = begun-full _ _ (a_digit c.before) (not-true _ c.if2.true)
+returns-then-not-room : tie.Need-returns-then-not-room
+returns-then-not-room c = begun-full _ _ (a_digit c.before) (not-true _ c.if-not-room.true)
 
 digit-requires : tie.Need-digit-requires
 digit-requires c κs = a_digit c.before
 
-cast-t7 : tie.Need-overflow-cast-t7
-cast-t7 c = search rules
+overflow_cast-result : tie.Need-overflow_cast-result
+overflow_cast-result c = search rules
 
-returns-3 : tie.Need-returns-3
-returns-3 c = begun_digit _ _ c.digit.ensures.0 (a_digit c.before.before) (not-false _ c.before.if2.false)
+returns-3 : tie.Need-returns
+returns-3 c = begun_digit _ _ c.digit.ensures.0 (a_digit c.before.before) (not-false _ c.if-not-room.false)
 
 pub begun_spec : {M : Type 1} → statement M
 begun_spec =
     tie.close
-    (tie.spec is-digit-requires parted-requires returns returns-2 digit-requires cast-t7 returns-3)
+    (tie.spec is_digit-requires parted-requires returns-then-not-is_digit returns-then-not-room digit-requires overflow_cast-result returns-3)

@@ -6,14 +6,14 @@ use Rattle.text.proofs.Bytes.{digit_range}
 use Rattle.text.proofs.digit.Statement.{statement}
 use Rattle.text.proofs.digit.Tie as tie
 
-sub-result : tie.Need-overflow-sub-result
-sub-result c = (digit_range _ c.requires).0
+overflow_sub-result : tie.Need-overflow_sub-result
+overflow_sub-result c = (digit_range _ c.requires).0
 
-cast-result : tie.Need-overflow-cast-result
-cast-result c = search rules
+overflow_cast-result : tie.Need-overflow_cast-result
+overflow_cast-result c = search rules
 
 returns : tie.Need-returns
 returns c = (refl, omega (arith, digit_range _ c.requires))
 
 pub digit_spec : {M : Type 1} → statement M
-digit_spec = tie.close (tie.spec sub-result cast-result returns)
+digit_spec = tie.close (tie.spec overflow_sub-result overflow_cast-result returns)

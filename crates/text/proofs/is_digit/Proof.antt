@@ -4,13 +4,13 @@ use Rattle.model.specs.Text.{is_digit}
 use Rattle.text.proofs.is_digit.Statement.{statement}
 use Rattle.text.proofs.is_digit.Tie as tie
 
-returns : tie.Need-returns
+returns-then-byte-ge48 : tie.Need-returns-then-byte-ge48
 unfolding is_digit
-returns c = rw (le-leb _ _ c.if1.true)
+returns-then-byte-ge48 c = rw (le-leb _ _ c.if-byte-ge48.true)
 
-returns-2 : tie.Need-returns-2
+returns-else-byte-ge48 : tie.Need-returns-else-byte-ge48
 unfolding is_digit
-returns-2 c = rw (lt-leb _ _ c.if1.false)
+returns-else-byte-ge48 c = rw (lt-leb _ _ c.if-byte-ge48.false)
 
 pub is_digit_spec : {M : Type 1} → statement M
-is_digit_spec = tie.close (tie.spec returns returns-2)
+is_digit_spec = tie.close (tie.spec returns-then-byte-ge48 returns-else-byte-ge48)

@@ -4,13 +4,13 @@ use Rattle.model.specs.Text.{is_gap}
 use Rattle.text.proofs.is_gap.Statement.{statement}
 use Rattle.text.proofs.is_gap.Tie as tie
 
-returns : tie.Need-returns
+returns-then-byte-eq32 : tie.Need-returns-then-byte-eq32
 unfolding is_gap
-returns c = rw (eq-eqb _ _ c.if1.true)
+returns-then-byte-eq32 c = rw (eq-eqb _ _ c.if-byte-eq32.true)
 
-returns-2 : tie.Need-returns-2
+returns-else-byte-eq32 : tie.Need-returns-else-byte-eq32
 unfolding is_gap
-returns-2 c = rw (ne_eqb _ _ c.if1.false)
+returns-else-byte-eq32 c = rw (ne_eqb _ _ c.if-byte-eq32.false)
 
 pub is_gap_spec : {M : Type 1} → statement M
-is_gap_spec = tie.close (tie.spec returns returns-2)
+is_gap_spec = tie.close (tie.spec returns-then-byte-eq32 returns-else-byte-eq32)

@@ -6,22 +6,22 @@ use Rattle.text.proofs.Numbers.{named_none, named_some}
 use Rattle.text.proofs.named.Statement.{statement}
 use Rattle.text.proofs.named.Tie as tie
 
-shorter-requires : tie.Need-shorter-requires
-shorter-requires c κs = search rules
+shorter-standing-requires : tie.Need-shorter-standing-requires
+shorter-standing-requires c κs = search rules
 
-returns : tie.Need-returns
-returns c =
-    let none = sym c.before.shorter.ensures ∙ c.if1.true in
+returns-then-standing-eq0 : tie.Need-returns-then-standing-eq0
+returns-then-standing-eq0 c =
+    let none = sym c.shorter-standing.ensures ∙ c.if-standing-eq0.true in
     (named_none _ _ _ none, none)
 
-shared-slice-read-t8 : tie.Need-shared-slice-read-t8
-shared-slice-read-t8 c = search rules
+bounds-numbers-0 : tie.Need-bounds-numbers-0
+bounds-numbers-0 c = search rules
 
-sub-t5 : tie.Need-overflow-sub-t5
-sub-t5 c = search rules
+overflow_sub-result : tie.Need-overflow_sub-result
+overflow_sub-result c = search rules
 
-returns-2 : tie.Need-returns-2
-returns-2 c = (named_some _ _ _ _ c.before.before.shorter.ensures c.before.if1.false, omega (arith, c.before.before.shorter.ensures))
+returns-2 : tie.Need-returns
+returns-2 c = (named_some _ _ _ _ c.shorter-standing.ensures c.if-standing-eq0.false, omega (arith, c.shorter-standing.ensures))
 
 pub named_spec : {M : Type 1} → statement M
-named_spec = tie.close (tie.spec shorter-requires returns shared-slice-read-t8 sub-t5 returns-2)
+named_spec = tie.close (tie.spec shorter-standing-requires returns-then-standing-eq0 bounds-numbers-0 overflow_sub-result returns-2)

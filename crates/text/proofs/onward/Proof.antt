@@ -4,14 +4,14 @@ use Rattle.text.proofs.Bytes.{onward_more, onward_last}
 use Rattle.text.proofs.onward.Statement.{statement}
 use Rattle.text.proofs.onward.Tie as tie
 
-add-result : tie.Need-overflow-add-result
-add-result c = search rules
+overflow_add-result : tie.Need-overflow_add-result
+overflow_add-result c = search rules
 
-returns : tie.Need-returns
-returns c = onward_more _ c.if1.true
+returns-then-at-lt18446744073709551615 : tie.Need-returns-then-at-lt18446744073709551615
+returns-then-at-lt18446744073709551615 c = onward_more _ c.if-at-lt18446744073709551615.true
 
-returns-2 : tie.Need-returns-2
-returns-2 c = onward_last _ c.if1.false
+returns-else-at-lt18446744073709551615 : tie.Need-returns-else-at-lt18446744073709551615
+returns-else-at-lt18446744073709551615 c = onward_last _ c.if-at-lt18446744073709551615.false
 
 pub onward_spec : {M : Type 1} → statement M
-onward_spec = tie.close (tie.spec add-result returns returns-2)
+onward_spec = tie.close (tie.spec overflow_add-result returns-then-at-lt18446744073709551615 returns-else-at-lt18446744073709551615)

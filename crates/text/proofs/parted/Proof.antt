@@ -5,14 +5,14 @@ use Rattle.text.proofs.Bytes.{parted-gap, parted-other}
 use Rattle.text.proofs.parted.Statement.{statement}
 use Rattle.text.proofs.parted.Tie as tie
 
-is-gap-requires : tie.Need-is-gap-requires
-is-gap-requires c κs = search rules
+is_gap-requires : tie.Need-is_gap-requires
+is_gap-requires c κs = search rules
 
-returns : tie.Need-returns
-returns c = parted-gap _ _ (sym c.before.is-gap.ensures ∙ c.if1.true)
+returns-then-is_gap : tie.Need-returns-then-is_gap
+returns-then-is_gap c = parted-gap _ _ (sym c.is_gap.ensures ∙ c.if-is_gap.true)
 
-returns-2 : tie.Need-returns-2
-returns-2 c = parted-other _ _ (sym c.before.is-gap.ensures ∙ c.if1.false)
+returns-else-is_gap : tie.Need-returns-else-is_gap
+returns-else-is_gap c = parted-other _ _ (sym c.is_gap.ensures ∙ c.if-is_gap.false)
 
 pub parted_spec : {M : Type 1} → statement M
-parted_spec = tie.close (tie.spec is-gap-requires returns returns-2)
+parted_spec = tie.close (tie.spec is_gap-requires returns-then-is_gap returns-else-is_gap)

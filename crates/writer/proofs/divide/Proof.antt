@@ -5,17 +5,17 @@ use Rattle.writer.proofs.Written.{wrote_none}
 use Rattle.writer.proofs.divide.Statement.{statement}
 use Rattle.writer.proofs.divide.Tie as tie
 
-returns : tie.Need-returns
-returns c = rw (eq-eqb _ _ c.if1.true) wrote_none
+returns-then-divisor-eq0 : tie.Need-returns-then-divisor-eq0
+returns-then-divisor-eq0 c = rw (eq-eqb _ _ c.if-divisor-eq0.true) wrote_none
 
 put-requires : tie.Need-put-requires
-put-requires c κs = rw (ne_eqb _ _ c.before.if1.false) at c.before.before.before.requires
+put-requires c κs = rw (ne_eqb _ _ c.if-divisor-eq0.false) at c.requires
 
-same_length : tie.Need-same-length
-same_length c = search rules
+shape_of-words : tie.Need-shape_of-words
+shape_of-words c = search rules
 
-returns-2 : tie.Need-returns-2
-returns-2 c = rw (ne_eqb _ _ c.before.before.before.before.if1.false) c.before.before.put.ensures
+returns-2 : tie.Need-returns
+returns-2 c = rw (ne_eqb _ _ c.if-divisor-eq0.false) c.put.ensures
 
 pub divide_spec : {M : Type 1} → statement M
-divide_spec = tie.close (tie.spec returns put-requires same_length returns-2)
+divide_spec = tie.close (tie.spec returns-then-divisor-eq0 put-requires shape_of-words returns-2)

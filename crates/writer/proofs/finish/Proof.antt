@@ -6,20 +6,20 @@ use Rattle.writer.proofs.finish.Tie as tie
 wide-requires : tie.Need-wide-requires
 wide-requires c κs = search rules
 
-mul-last : tie.Need-overflow-mul-last
-mul-last c = search rules
+overflow_mul-last : tie.Need-overflow_mul-last
+overflow_mul-last c = search rules
 
-sub-last : tie.Need-overflow-sub-last
-sub-last c = search rules
+overflow_sub-last : tie.Need-overflow_sub-last
+overflow_sub-last c = search rules
 
-mul_words : tie.Need-overflow-mul-words
-mul_words c = search rules
+offset_bounds-words-last : tie.Need-offset_bounds-words-last
+offset_bounds-words-last c = search rules
 
-slice-write-words : tie.Need-slice-write-words
-slice-write-words c = search rules
+bounds-words-last : tie.Need-bounds-words-last
+bounds-words-last c = search rules
 
-same_length : tie.Need-same-length
-same_length c = search rules
+shape_of-words : tie.Need-shape_of-words
+shape_of-words c = search rules
 
 returns : tie.Need-returns
 returns c = rw c.wide.ensures
@@ -27,4 +27,4 @@ returns c = rw c.wide.ensures
 pub finish_spec : {M : Type 1} → statement M
 finish_spec =
     tie.close
-    (tie.spec wide-requires mul-last sub-last mul_words slice-write-words same_length returns)
+    (tie.spec wide-requires overflow_mul-last overflow_sub-last offset_bounds-words-last bounds-words-last shape_of-words returns)

@@ -4,30 +4,30 @@ use borrow.Author.Rules.{rules}
 use Rattle.writer.proofs.position.Statement.{statement}
 use Rattle.writer.proofs.position.Tie as tie
 
-wide-requires : tie.Need-wide-requires
-wide-requires c κs = search rules
+wide-at-requires : tie.Need-wide-at-requires
+wide-at-requires c κs = search rules
 
-mul-if2 : tie.Need-overflow-mul-if2
-mul-if2 c = search rules
+offset_bounds-plan-at : tie.Need-offset_bounds-plan-at
+offset_bounds-plan-at c = search rules
 
-shared-slice-read-if2 : tie.Need-shared-slice-read-if2
-shared-slice-read-if2 c = search rules
+bounds-plan-at : tie.Need-bounds-plan-at
+bounds-plan-at c = search rules
 
-add-result : tie.Need-overflow-add-result
-add-result c = search rules
+overflow_add-result : tie.Need-overflow_add-result
+overflow_add-result c = search rules
 
-returns : tie.Need-returns
-returns c =
+returns-then-plan-at : tie.Need-returns-then-plan-at
+returns-then-plan-at c =
     let start = c.before.before.before.before.before in
-    position_here start.args.plan.now _ _ _ c.before.before.before.wide.ensures c.before.before.if1.true c.if2.true
+    position_here start.args.plan.now _ _ _ c.wide-at.ensures c.if-at-plan.true c.if-plan-at.true
 
-returns-2 : tie.Need-returns-2
-returns-2 c = position-other c.before.before.before.before.before.args.plan.now _ _ _ c.before.before.before.wide.ensures c.if2.false
+returns-else-plan-at : tie.Need-returns-else-plan-at
+returns-else-plan-at c = position-other c.args.plan.now _ _ _ c.wide-at.ensures c.if-plan-at.false
 
-returns-3 : tie.Need-returns-3
-returns-3 c = position_past c.before.before.before.args.plan.now _ _ _ c.before.wide.ensures c.if1.false
+returns-else-at-plan : tie.Need-returns-else-at-plan
+returns-else-at-plan c = position_past c.args.plan.now _ _ _ c.wide-at.ensures c.if-at-plan.false
 
 pub position_spec : {M : Type 1} → statement M
 position_spec =
     tie.close
-    (tie.spec wide-requires mul-if2 shared-slice-read-if2 add-result returns returns-2 returns-3)
+    (tie.spec wide-at-requires offset_bounds-plan-at bounds-plan-at overflow_add-result returns-then-plan-at returns-else-plan-at returns-else-at-plan)

@@ -10,29 +10,29 @@ use Rattle.writer.proofs.write.Tie as tie
 abbrev entry : tie.After-head → tie.Start
 entry c = c.before.before.before.before.before.before.before
 
-abbrev headed : tie.After-write-batches → tie.After-head
+abbrev headed : tie.After-write_batches-first → tie.After-head
 headed c = c.before.before.before.before
 
-abbrev batches : tie.After-write-solution → tie.After-write-batches
+abbrev batches : tie.After-write_solution-end → tie.After-write_batches-first
 batches c = c.before.before.before.before
 
 head-requires : tie.Need-head-requires
 head-requires c κs =
-    let counted = plan-counted c.before.before.before.before.before.before.requires in
+    let counted = plan-counted c.requires in
     (counted.short, omega (arith, counted))
 
-write-batches-requires : tie.Need-write-batches-requires
-write-batches-requires c κs =
+write_batches-first-requires : tie.Need-write_batches-first-requires
+write_batches-first-requires c κs =
     let h = c.before.before.before in
     let p = (entry h).requires in
     (ready p, room-front _ (headed_room _ _ (plan-counted p) h.head.ensures))
 
-write-solution-requires : tie.Need-write-solution-requires
-write-solution-requires c κs =
+write_solution-end-requires : tie.Need-write_solution-end-requires
+write_solution-end-requires c κs =
     let b = c.before.before.before in
     let h = headed b in
     let p = (entry h).pre in
-    ((ready p).covers, room_back (headed_room _ _ (plan-counted p) h.head.ensures) b.write-batches.ensures)
+    ((ready p).covers, room_back (headed_room _ _ (plan-counted p) h.head.ensures) b.write_batches-first.ensures)
 
 finish-requires : tie.Need-finish-requires
 finish-requires c κs =
@@ -41,10 +41,10 @@ finish-requires c κs =
     let h = headed b in
     let counted = plan-counted (entry h).pre in
     last_inside _ _ counted h.head.ensures
-    (wrote_more (headed_room _ _ counted h.head.ensures) b.write-batches.ensures s.write-solution.ensures)
+    (wrote_more (headed_room _ _ counted h.head.ensures) b.write_batches-first.ensures s.write_solution-end.ensures)
 
-same_length : tie.Need-same-length
-same_length c = search rules
+shape_of-words : tie.Need-shape_of-words
+shape_of-words c = search rules
 
 returns : tie.Need-returns
 returns c =
@@ -55,15 +55,15 @@ returns c =
     let p = (entry h).pre in
     let counted = plan-counted p in
     rw p.records at (program-written _ _ counted h.head.ensures
-    (wrote_more (headed_room _ _ counted h.head.ensures) b.write-batches.ensures s.write-solution.ensures) f.finish.ensures)
+    (wrote_more (headed_room _ _ counted h.head.ensures) b.write_batches-first.ensures s.write_solution-end.ensures) f.finish.ensures)
 
 pub write_spec : {M : Type 1} → statement M
 write_spec =
     tie.close
     (tie.spec
     head-requires
-    write-batches-requires
-    write-solution-requires
+    write_batches-first-requires
+    write_solution-end-requires
     finish-requires
-    same_length
+    shape_of-words
     returns)

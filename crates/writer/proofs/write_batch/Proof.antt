@@ -17,26 +17,26 @@ use Rattle.writer.proofs.write_batch.Tie as tie
 abbrev entry : tie.After-wide → tie.Start
 entry c = c.before.before.before.before.before.before
 
-abbrev read : tie.After-write-line → tie.After-wide
+abbrev read : tie.After-write_line-column → tie.After-wide
 read c = c.before.before.before
 
-abbrev column : tie.After-wide2 → tie.After-write-line
+abbrev column : tie.After-wide-start → tie.After-write_line-column
 column c = c.before.before.before
 
-abbrev begun : tie.After-write-forward → tie.After-wide2
+abbrev begun : tie.After-write_forward-after → tie.After-wide-start
 begun c = c.before.before.before.before
 
-abbrev forward : tie.After-write-line2 → tie.After-write-forward
+abbrev forward : tie.After-write_line → tie.After-write_forward-after
 forward c = c.before.before.before.before
 
 wide-requires : tie.Need-wide-requires
 wide-requires c κs = search rules
 
-mul-pivot : tie.Need-overflow-mul-pivot
-mul-pivot c = search rules
+offset_bounds-work-wide : tie.Need-offset_bounds-work-wide
+offset_bounds-work-wide c = search rules
 
-shared-slice-read-pivot : tie.Need-shared-slice-read-pivot
-shared-slice-read-pivot c =
+bounds-work-wide : tie.Need-bounds-work-wide
+bounds-work-wide c =
     let p = (entry c.before).requires in
     omega (arith, place_bounds p.0 p.1.0 p.1.1.0)
 
@@ -44,66 +44,66 @@ shared-slice-read-pivot c =
 pivot_is : (c : tie.After-wide) → let a = (entry c).args in get_or a.work.now c.wide.result 0 ≡ number_at a.n a.work.now a.m a.m
 pivot_is c = sym (number-here _ _ _ _ _ (ap suc c.wide.ensures ∙ (entry c).requires.1.1.0.here))
 
-write-line-requires : tie.Need-write-line-requires
-write-line-requires c κs =
+write_line-column-requires : tie.Need-write_line-column-requires
+write_line-column-requires c κs =
     let p = (entry c.before.before).requires in
     (p.0, (p.1.0, (refl, (p.1.1.0, first-room (batch-parts _ _ _ _) p.1.1.1))))
 
 -- after the column there is room for y(m)
-forward-room : (c : tie.After-wide2) → let a = (entry (read (column c))).args in let w = (column c).write-line in
+forward-room : (c : tie.After-wide-start) → let a = (entry (read (column c))).args in let w = (column c).write-line in
     Room 0 w.result.next (y_at a.n a.work.now a.m) w.last.1.1.1.1.1.0
 forward-room c = second_room (batch-parts _ _ _ _) (entry (read (column c))).requires.1.1.1 (column c).write-line.ensures.0
 
-wide-requires-2 : tie.Need-wide-requires-2
-wide-requires-2 c κs = search rules
+wide-start-requires : tie.Need-wide-start-requires
+wide-start-requires c κs = search rules
 
-mul-start : tie.Need-overflow-mul-start
-mul-start c = search rules
+overflow_mul-start : tie.Need-overflow_mul-start
+overflow_mul-start c = search rules
 
-mul-write-forward : tie.Need-overflow-mul-write-forward
-mul-write-forward c = search rules
+offset_bounds-words-start : tie.Need-offset_bounds-words-start
+offset_bounds-words-start c = search rules
 
-sub-write-forward : tie.Need-overflow-sub-write-forward
-sub-write-forward c = omega (arith, forward-room c)
+slice_bounds-write_forward-count : tie.Need-slice_bounds-write_forward-count
+slice_bounds-write_forward-count c = omega (arith, forward-room c)
 
-part-write-forward-start : tie.Need-slice-bounds-write-forward-start
-part-write-forward-start c = omega (arith, forward-room c)
+slice_bounds-write_forward-start : tie.Need-slice_bounds-write_forward-start
+slice_bounds-write_forward-start c = omega (arith, forward-room c)
 
-part-write-forward-end : tie.Need-slice-bounds-write-forward-end
-part-write-forward-end c = search rules
+slice_bounds-write_forward-end : tie.Need-slice_bounds-write_forward-end
+slice_bounds-write_forward-end c = search rules
 
-wide-requires-3 : tie.Need-wide-requires-3
+wide-requires-3 : tie.Need-wide-requires-2
 wide-requires-3 c κs = search rules
 
-mul-write-forward-2 : tie.Need-overflow-mul-write-forward-2
-mul-write-forward-2 c = search rules
+offset_bounds-rows-wide : tie.Need-offset_bounds-rows-wide
+offset_bounds-rows-wide c = search rules
 
-shared-slice-read-write-forward : tie.Need-shared-slice-read-write-forward
-shared-slice-read-write-forward c = search rules
+bounds-rows-wide : tie.Need-bounds-rows-wide
+bounds-rows-wide c = search rules
 
-write-forward-requires : tie.Need-write-forward-requires
+write_forward-after-requires : tie.Need-write_forward-after-requires
 unfolding y_at
-write-forward-requires c κs =
+write_forward-after-requires c κs =
     let b = c.before.before.before in
     let r = read (column b) in
     let p = (entry r).pre in
-    let none = forward-none p.0 _ _ _ p.1.0 c.before.wide3.ensures refl in
-    (p.0.covers, (p.1.0, (pivot_is r, (none, lent_room (ap (◌*◌ 4) b.wide2.ensures) (forward-room b)))))
+    let none = forward-none p.0 _ _ _ p.1.0 c.wide-2.ensures refl in
+    (p.0.covers, (p.1.0, (pivot_is r, (none, lent_room (ap (◌*◌ 4) b.wide-start.ensures) (forward-room b)))))
 
-write-line-requires-2 : tie.Need-write-line-requires-2
+write_line-requires : tie.Need-write_line-requires
 unfolding y_at
-write-line-requires-2 c κs =
+write_line-requires c κs =
     let f = c.before.before.before in
     let b = begun f in
     let w = (column b).write-line in
     let r = read (column b) in
     let p = (entry r).pre in
-    let forward-written = lent_back (ap (◌*◌ 4) b.wide2.ensures) f.write-forward.ensures in
+    let forward-written = lent_back (ap (◌*◌ 4) b.wide-start.ensures) f.write_forward-after.ensures in
     let room = fourth_room (batch-parts _ _ _ _) p.1.1.1 w.ensures.0 forward-written wrote_none in
     (p.0, (p.1.0, (pivot_is r, (turned p.1.0 _ w.ensures.1, room))))
 
-same_length : tie.Need-same-length
-same_length c = search rules
+shape_of-words : tie.Need-shape_of-words
+shape_of-words c = search rules
 
 returns : tie.Need-returns
 unfolding y_at
@@ -112,9 +112,9 @@ returns c =
     let f = forward row in
     let b = begun f in
     let p = (entry (read (column b))).requires in
-    let forward-written = lent_back (ap (◌*◌ 4) b.wide2.ensures) f.write-forward.ensures in (
-      parts-written (batch-parts _ _ _ _) p.1.1.1 (column b).write-line.ensures.0 forward-written wrote_none row.write-line2.ensures.0,
-      onward p.1.0 row.write-line2.ensures.1,
+    let forward-written = lent_back (ap (◌*◌ 4) b.wide-start.ensures) f.write_forward-after.ensures in (
+      parts-written (batch-parts _ _ _ _) p.1.1.1 (column b).write-line.ensures.0 forward-written wrote_none row.write_line.ensures.0,
+      onward p.1.0 row.write_line.ensures.1,
     )
 
 pub write_batch_spec : {M : Type 1} → statement M
@@ -122,19 +122,19 @@ write_batch_spec =
     tie.close
     (tie.spec
     wide-requires
-    mul-pivot
-    shared-slice-read-pivot
-    write-line-requires
-    wide-requires-2
-    mul-start
-    mul-write-forward
-    sub-write-forward
-    part-write-forward-start
-    part-write-forward-end
+    offset_bounds-work-wide
+    bounds-work-wide
+    write_line-column-requires
+    wide-start-requires
+    overflow_mul-start
+    offset_bounds-words-start
+    slice_bounds-write_forward-count
+    slice_bounds-write_forward-start
+    slice_bounds-write_forward-end
     wide-requires-3
-    mul-write-forward-2
-    shared-slice-read-write-forward
-    write-forward-requires
-    write-line-requires-2
-    same_length
+    offset_bounds-rows-wide
+    bounds-rows-wide
+    write_forward-after-requires
+    write_line-requires
+    shape_of-words
     returns)

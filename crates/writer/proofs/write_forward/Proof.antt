@@ -6,44 +6,44 @@ use Rattle.writer.proofs.write_forward.Statement.{statement}
 use Rattle.writer.proofs.write_forward.Tie as tie
 
 -- Places of the code: where y(m) is divided, reduced and opened, each seen from the next; and the entry.
-abbrev entry : tie.After-put → tie.Start
+abbrev entry : tie.After-put-opened → tie.Start
 entry c = c.before.before.before.before
 
-abbrev opened : tie.After-write-left → tie.After-put
+abbrev opened : tie.After-write_left-reduced → tie.After-put-opened
 opened c = c.before.before.before.before
 
-abbrev reduced : tie.After-divide → tie.After-write-left
+abbrev reduced : tie.After-divide-divided → tie.After-write_left-reduced
 reduced c = c.before.before.before.before
 
-abbrev divided : tie.After-put2 → tie.After-divide
+abbrev divided : tie.After-put → tie.After-divide-divided
 divided c = c.before.before.before.before
 
-put-requires : tie.Need-put-requires
-put-requires c κs = first-room (forward-parts _ _ _ _ c.before.before.before.requires.1.1.0) c.before.before.before.requires.1.1.1.1
+put-opened-requires : tie.Need-put-opened-requires
+put-opened-requires c κs = first-room (forward-parts _ _ _ _ c.requires.1.1.0) c.requires.1.1.1.1
 
-write-left-requires : tie.Need-write-left-requires
-write-left-requires c κs =
+write_left-reduced-requires : tie.Need-write_left-reduced-requires
+write_left-reduced-requires c κs =
     let o = c.before.before.before in
     let p = (entry o).requires in
-    (p.0, (p.1.0, (p.1.1.1.0, second_room (forward-parts _ _ _ _ p.1.1.0) p.1.1.1.1 o.put.ensures)))
+    (p.0, (p.1.0, (p.1.1.1.0, second_room (forward-parts _ _ _ _ p.1.1.0) p.1.1.1.1 o.put-opened.ensures)))
 
-divide-requires : tie.Need-divide-requires
-divide-requires c κs =
+divide-divided-requires : tie.Need-divide-divided-requires
+divide-divided-requires c κs =
     let r = c.before.before.before in
     let o = opened r in
     let p = (entry o).pre in
-    third_room (forward-parts _ _ _ _ p.1.1.0) p.1.1.1.1 o.put.ensures r.write-left.ensures
+    third_room (forward-parts _ _ _ _ p.1.1.0) p.1.1.1.1 o.put-opened.ensures r.write_left-reduced.ensures
 
-put-requires-2 : tie.Need-put-requires-2
+put-requires-2 : tie.Need-put-requires
 put-requires-2 c κs =
     let d = c.before.before.before in
     let r = reduced d in
     let o = opened r in
     let p = (entry o).pre in
-    fourth_room (forward-parts _ _ _ _ p.1.1.0) p.1.1.1.1 o.put.ensures r.write-left.ensures d.divide.ensures
+    fourth_room (forward-parts _ _ _ _ p.1.1.0) p.1.1.1.1 o.put-opened.ensures r.write_left-reduced.ensures d.divide-divided.ensures
 
-same_length : tie.Need-same-length
-same_length c = search rules
+shape_of-rest : tie.Need-shape_of-rest
+shape_of-rest c = search rules
 
 returns : tie.Need-returns
 returns c =
@@ -52,9 +52,9 @@ returns c =
     let r = reduced d in
     let o = opened r in
     let p = (entry o).pre in
-    parts-written (forward-parts _ _ _ _ p.1.1.0) p.1.1.1.1 o.put.ensures r.write-left.ensures d.divide.ensures closed.put2.ensures
+    parts-written (forward-parts _ _ _ _ p.1.1.0) p.1.1.1.1 o.put-opened.ensures r.write_left-reduced.ensures d.divide-divided.ensures closed.put.ensures
 
 pub write_forward_spec : {M : Type 1} → statement M
 write_forward_spec =
     tie.close
-    (tie.spec put-requires write-left-requires divide-requires put-requires-2 same_length returns)
+    (tie.spec put-opened-requires write_left-reduced-requires divide-divided-requires put-requires-2 shape_of-rest returns)

@@ -13,152 +13,152 @@ use Rattle.writer.proofs.Written.{wrote_length}
 use Rattle.writer.proofs.write_inner.Statement.{statement}
 use Rattle.writer.proofs.write_inner.Tie as tie
 
-abbrev invariant-loop : tie.invariant-loop
-invariant-loop n work rest₀ first k i j from end next₀ h₀ across₀ down₀ rest next h across down =
+abbrev invariant-loop-h : tie.invariant-loop-h
+invariant-loop-h n work rest₀ first k i j from end next₀ h₀ across₀ down₀ rest next h across down =
     (end ≡ min i j) × Rising (inner_at n work i j) 1 first k (min i j) rest₀ next h rest × (h < end → across ≡ label n i h) × (h < end → down ≡ label n h j)
 
-abbrev decreases-loop : tie.decreases-loop
-decreases-loop n work rest₀ first k i j from end next₀ h₀ across₀ down₀ rest next h across down = end - h
+abbrev decreases-loop-h : tie.decreases-loop-h
+decreases-loop-h n work rest₀ first k i j from end next₀ h₀ across₀ down₀ rest next h across down = end - h
 
 -- Places of the code: a turn, seen from its end, and the entry, seen from the loop's head.
 abbrev Turn : Type 0
-Turn = tie.In-loop invariant-loop decreases-loop
+Turn = tie.In-loop-h invariant-loop-h decreases-loop-h
 
-abbrev entry : tie.At-loop invariant-loop decreases-loop → tie.Start invariant-loop decreases-loop
+abbrev entry : tie.At-loop-h invariant-loop-h decreases-loop-h → tie.Start invariant-loop-h decreases-loop-h
 entry c = c.before.before.before.before.before.before.before.before.before
 
-abbrev turn : tie.After-wide3 invariant-loop decreases-loop → Turn
+abbrev turn : tie.After-wide-step invariant-loop-h decreases-loop-h → Turn
 turn c = c.before.before.before.before.before.before.before
 
-smaller-requires : tie.Need-smaller-requires invariant-loop decreases-loop
-smaller-requires c κs = search rules
+smaller-end-requires : tie.Need-smaller-end-requires invariant-loop-h decreases-loop-h
+smaller-end-requires c κs = search rules
 
-larger-requires : tie.Need-larger-requires invariant-loop decreases-loop
-larger-requires c κs = search rules
+larger-h-requires : tie.Need-larger-h-requires invariant-loop-h decreases-loop-h
+larger-h-requires c κs = search rules
 
-label-requires : tie.Need-label-requires invariant-loop decreases-loop
+label-requires : tie.Need-label-requires invariant-loop-h decreases-loop-h
 label-requires c κs = search rules
 
-wide-requires : tie.Need-wide-requires invariant-loop decreases-loop
-wide-requires c κs = search rules
+wide-across-requires : tie.Need-wide-across-requires invariant-loop-h decreases-loop-h
+wide-across-requires c κs = search rules
 
-label-requires-2 : tie.Need-label-requires-2 invariant-loop decreases-loop
+label-requires-2 : tie.Need-label-requires-2 invariant-loop-h decreases-loop-h
 label-requires-2 c κs = search rules
 
-wide-requires-2 : tie.Need-wide-requires-2 invariant-loop decreases-loop
-wide-requires-2 c κs = search rules
+wide-down-requires : tie.Need-wide-down-requires invariant-loop-h decreases-loop-h
+wide-down-requires c κs = search rules
 
-loop-holds : tie.Need-loop-init invariant-loop decreases-loop
+loop-holds : tie.Need-loop-h-init invariant-loop-h decreases-loop-h
 loop-holds c =
     let lowest = c.before.before.before.before in
-    let p = lowest.before.before.before.before.requires in (
-      lowest.before.smaller.ensures,
-      rw lowest.larger.ensures (rising-skips _ p.1.1.0 p.1.1.1),
-      (λ below. c.before.before.wide.ensures ∙ (c.before.before.before.label.ensures ∙ label-answered _ _ _ p.0.high (omega arith))),
-      λ below. c.wide2.ensures ∙ (c.before.label2.ensures ∙ label-answered _ _ _ p.0.high (omega arith)),
+    let p = lowest.requires in (
+      lowest.smaller-end.ensures,
+      rw lowest.larger-h.ensures (rising-skips _ p.1.1.0 p.1.1.1),
+      (λ below. c.wide-across.ensures ∙ (c.label.ensures ∙ label-answered _ _ _ p.0.high (omega arith))),
+      λ below. c.wide-down.ensures ∙ (c.label-2.ensures ∙ label-answered _ _ _ p.0.high (omega arith)),
     )
 
-row : (c : Turn) → let a = (entry c.before).args in let l = c.before.loop in Stands a.n a.work.now a.i l.h l.across
+row : (c : Turn) → let a = (entry c.before).args in let l = c.loop-h in Stands a.n a.work.now a.i l.h l.across
 row c =
     let start = entry c.before in
-    stands start.pre.0 (omega arith) (c.before.loop.invariant.2 c.loop-test.true)
+    stands start.pre.0 (omega arith) (c.loop-h.invariant.2 c.loop-h-test.true)
 
-column : (c : Turn) → let a = (entry c.before).args in let l = c.before.loop in Stands a.n a.work.now l.h a.j l.down
+column : (c : Turn) → let a = (entry c.before).args in let l = c.loop-h in Stands a.n a.work.now l.h a.j l.down
 column c =
     let start = entry c.before in
-    stands start.pre.0 (omega arith) (c.before.loop.invariant.3 c.loop-test.true)
+    stands start.pre.0 (omega arith) (c.loop-h.invariant.3 c.loop-h-test.true)
 
-sub-subtract : tie.Need-overflow-sub-subtract invariant-loop decreases-loop
-sub-subtract c = omega (arith, row c.before)
+overflow_sub-across : tie.Need-overflow_sub-across invariant-loop-h decreases-loop-h
+overflow_sub-across c = omega (arith, row c.before)
 
-mul-subtract : tie.Need-overflow-mul-subtract invariant-loop decreases-loop
-mul-subtract c = omega (arith, row c.before)
+offset_bounds-work-across : tie.Need-offset_bounds-work-across invariant-loop-h decreases-loop-h
+offset_bounds-work-across c = omega (arith, row c.before)
 
-shared-slice-read-subtract : tie.Need-shared-slice-read-subtract invariant-loop decreases-loop
-shared-slice-read-subtract c = omega (arith, row c.before.before)
+bounds-work-across : tie.Need-bounds-work-across invariant-loop-h decreases-loop-h
+bounds-work-across c = omega (arith, row c.before.before)
 
-sub-subtract-2 : tie.Need-overflow-sub-subtract-2 invariant-loop decreases-loop
-sub-subtract-2 c = omega (arith, column c.before.before)
+overflow_sub-down : tie.Need-overflow_sub-down invariant-loop-h decreases-loop-h
+overflow_sub-down c = omega (arith, column c.before.before)
 
-mul-subtract-2 : tie.Need-overflow-mul-subtract-2 invariant-loop decreases-loop
-mul-subtract-2 c = omega (arith, column c.before.before)
+offset_bounds-work-down : tie.Need-offset_bounds-work-down invariant-loop-h decreases-loop-h
+offset_bounds-work-down c = omega (arith, column c.before.before)
 
-shared-slice-read-subtract-2 : tie.Need-shared-slice-read-subtract-2 invariant-loop decreases-loop
-shared-slice-read-subtract-2 c = omega (arith, column c.before.before.before)
+bounds-work-down : tie.Need-bounds-work-down invariant-loop-h decreases-loop-h
+bounds-work-down c = omega (arith, column c.before.before.before)
 
-subtract-requires : tie.Need-subtract-requires invariant-loop decreases-loop
-subtract-requires c κs =
+subtract-next-requires : tie.Need-subtract-next-requires invariant-loop-h decreases-loop-h
+subtract-next-requires c κs =
     let t = c.before.before.before in
-    rw (inner-at (row t) (column t)) at (rising-room t.before.loop.invariant.1 (omega arith))
+    rw (inner-at (row t) (column t)) at (rising-room t.loop-h.invariant.1 (omega arith))
 
-sub_wide : tie.Need-overflow-sub-wide invariant-loop decreases-loop
-sub_wide c = omega arith
+overflow_sub-n : tie.Need-overflow_sub-n invariant-loop-h decreases-loop-h
+overflow_sub-n c = omega arith
 
-wide-requires-3 : tie.Need-wide-requires-3 invariant-loop decreases-loop
-wide-requires-3 c κs = search rules
+wide-step-requires : tie.Need-wide-step-requires invariant-loop-h decreases-loop-h
+wide-step-requires c κs = search rules
 
-mul-step : tie.Need-overflow-mul-step invariant-loop decreases-loop
-mul-step c = omega arith
+overflow_mul-step : tie.Need-overflow_mul-step invariant-loop-h decreases-loop-h
+overflow_mul-step c = omega arith
 
-add-across : tie.Need-overflow-add-across invariant-loop decreases-loop
-add-across c = omega (arith, row (turn c))
+overflow_add-across : tie.Need-overflow_add-across invariant-loop-h decreases-loop-h
+overflow_add-across c = omega (arith, row (turn c))
 
-sub-down : tie.Need-overflow-sub-down invariant-loop decreases-loop
-sub-down c = omega arith
+overflow_sub-down-in-loop-h : tie.Need-overflow_sub-down-in-loop-h invariant-loop-h decreases-loop-h
+overflow_sub-down-in-loop-h c = omega arith
 
-add-down : tie.Need-overflow-add-down invariant-loop decreases-loop
-add-down c = omega (arith, column (turn c))
+overflow_add-down : tie.Need-overflow_add-down invariant-loop-h decreases-loop-h
+overflow_add-down c = omega (arith, column (turn c))
 
-add-h : tie.Need-overflow-add-h invariant-loop decreases-loop
-add-h c = omega arith
+overflow_add-h : tie.Need-overflow_add-h invariant-loop-h decreases-loop-h
+overflow_add-h c = omega arith
 
-loop-less : tie.Need-loop-smaller invariant-loop decreases-loop
+loop-less : tie.Need-loop-h-smaller invariant-loop-h decreases-loop-h
 loop-less c = omega arith
 
-loop-again : tie.Need-loop-preserved invariant-loop decreases-loop
+loop-again : tie.Need-loop-h-preserved invariant-loop-h decreases-loop-h
 loop-again c =
     let t = turn c in
-    let loop = t.before.loop in (
+    let loop = t.loop-h in (
       loop.inv.0,
-      rising-more loop.inv.1 (omega arith) (rw (← inner-at (row t) (column t)) at c.before.before.before.subtract.ensures),
-      (λ below. label_across _ _ _ _ _ (row t).is c.wide3.ensures (omega arith) (omega arith) (omega arith)),
-      λ below. label_downward _ _ _ _ _ (column t).is c.wide3.ensures (omega arith) (omega arith) (omega arith),
+      rising-more loop.inv.1 (omega arith) (rw (← inner-at (row t) (column t)) at c.subtract-next.ensures),
+      (λ below. label_across _ _ _ _ _ (row t).is c.wide-step.ensures (omega arith) (omega arith) (omega arith)),
+      λ below. label_downward _ _ _ _ _ (column t).is c.wide-step.ensures (omega arith) (omega arith) (omega arith),
     )
 
-returns : tie.Need-returns invariant-loop decreases-loop
-returns c = rising-ends c.before.loop.invariant.1 (omega arith)
+returns : tie.Need-returns invariant-loop-h decreases-loop-h
+returns c = rising-ends c.loop-h.invariant.1 (omega arith)
 
-same_length : tie.Need-same-length invariant-loop decreases-loop
-same_length c = wrote_length (entry c.before).pre.1.1.1 (returns c)
+shape_of-rest : tie.Need-shape_of-rest invariant-loop-h decreases-loop-h
+shape_of-rest c = wrote_length (entry c.before).pre.1.1.1 (returns c)
 
 pub write_inner_spec : {M : Type 1} → statement M
 write_inner_spec =
     tie.close
     (tie.spec
-    invariant-loop
-    decreases-loop
-    smaller-requires
-    larger-requires
+    invariant-loop-h
+    decreases-loop-h
+    smaller-end-requires
+    larger-h-requires
     label-requires
-    wide-requires
+    wide-across-requires
     label-requires-2
-    wide-requires-2
+    wide-down-requires
     loop-holds
-    sub-subtract
-    mul-subtract
-    shared-slice-read-subtract
-    sub-subtract-2
-    mul-subtract-2
-    shared-slice-read-subtract-2
-    subtract-requires
-    sub_wide
-    wide-requires-3
-    mul-step
-    add-across
-    sub-down
-    add-down
-    add-h
+    overflow_sub-across
+    offset_bounds-work-across
+    bounds-work-across
+    overflow_sub-down
+    offset_bounds-work-down
+    bounds-work-down
+    subtract-next-requires
+    overflow_sub-n
+    wide-step-requires
+    overflow_mul-step
+    overflow_add-across
+    overflow_sub-down-in-loop-h
+    overflow_add-down
+    overflow_add-h
     loop-less
     loop-again
-    same_length
+    shape_of-rest
     returns)

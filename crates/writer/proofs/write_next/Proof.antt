@@ -14,116 +14,116 @@ use Rattle.writer.proofs.write_next.Statement.{statement}
 use Rattle.writer.proofs.write_next.Tie as tie
 
 -- Places of the code: where the place's words begin, where its position is found and where its slot is read, each seen from a later one; and the entry.
-abbrev entry : tie.After-shared-slice-known5 → tie.Start
+abbrev entry : tie.After-shared_slice_known-5-1 → tie.Start
 entry c = c.before.before.before.before.before.before.before
 
-abbrev read : tie.After-position → tie.After-shared-slice-known5
+abbrev read : tie.After-position-position → tie.After-shared_slice_known-5-1
 read c = c.before.before
 
-abbrev found : tie.After-wide4 → tie.After-position
+abbrev found : tie.After-wide-start → tie.After-position-position
 found c = c.before.before.before.before.before.before
 
-abbrev begun : tie.After-larger2 → tie.After-wide4
+abbrev begun : tie.After-larger → tie.After-wide-start
 begun c = c.before.before.before.before.before
 
 wide-requires : tie.Need-wide-requires
 wide-requires c κs = search rules
 
-mul-slot : tie.Need-overflow-mul-slot
-mul-slot c = search rules
+offset_bounds-work-wide : tie.Need-offset_bounds-work-wide
+offset_bounds-work-wide c = search rules
 
 -- the place has a work number, and labels are small
-bounds : (c : tie.After-shared-slice-known5) → let at = (entry c).args.at in
+bounds : (c : tie.After-shared_slice_known-5-1) → let at = (entry c).args.at in
     (at.done < length (entry c).args.work.now) × (at.done < 360000) × (at.passed ≤ 360000)
 bounds c = let p = (entry c).requires in omega (arith, place_bounds p.0 p.1.0 p.1.1.0)
 
-shared-slice-read-slot : tie.Need-shared-slice-read-slot
-shared-slice-read-slot c = omega (arith, bounds c)
+bounds-work-wide : tie.Need-bounds-work-wide
+bounds-work-wide c = omega (arith, bounds c)
 
-add-label : tie.Need-overflow-add-label
-add-label c = omega (arith, bounds c)
+overflow_add-label : tie.Need-overflow_add-label
+overflow_add-label c = omega (arith, bounds c)
 
-returns : tie.Need-returns
-returns c =
+returns-then-slot-eq0 : tie.Need-returns-then-slot-eq0
+returns-then-slot-eq0 c =
     let p = (entry c.before).requires in
-    let wide = c.before.before.wide in (
-      rw (place-left_out p.0 p.1.0 wide.result _ (ap suc wide.ensures ∙ p.1.1.0.here) c.if1.true) wrote_none,
-      (add-one _, passed-left_out p.0 p.1.0 p.1.1.0 (rw wide.ensures at c.if1.true)),
+    let wide = c.wide in (
+      rw (place-left_out p.0 p.1.0 wide.result _ (ap suc wide.ensures ∙ p.1.1.0.here) c.if-slot-eq0.true) wrote_none,
+      (add-one _, passed-left_out p.0 p.1.0 p.1.1.0 (rw wide.ensures at c.if-slot-eq0.true)),
     )
 
-position-requires : tie.Need-position-requires
-position-requires c κs = omega (arith, bounds c.before)
+position-position-requires : tie.Need-position-position-requires
+position-position-requires c κs = omega (arith, bounds c.before)
 
 wide-requires-2 : tie.Need-wide-requires-2
 wide-requires-2 c κs = search rules
 
-mul-larger : tie.Need-overflow-mul-larger
-mul-larger c = search rules
+offset_bounds-rows-wide : tie.Need-offset_bounds-rows-wide
+offset_bounds-rows-wide c = search rules
 
-shared-slice-read-larger : tie.Need-shared-slice-read-larger
-shared-slice-read-larger c = search rules
+bounds-rows-wide : tie.Need-bounds-rows-wide
+bounds-rows-wide c = search rules
 
 wide-requires-3 : tie.Need-wide-requires-3
 wide-requires-3 c κs = search rules
 
-mul-larger-2 : tie.Need-overflow-mul-larger-2
-mul-larger-2 c = search rules
+offset_bounds-columns-wide : tie.Need-offset_bounds-columns-wide
+offset_bounds-columns-wide c = search rules
 
-shared-slice-read-larger-2 : tie.Need-shared-slice-read-larger-2
-shared-slice-read-larger-2 c = search rules
+bounds-columns-wide : tie.Need-bounds-columns-wide
+bounds-columns-wide c = search rules
 
-larger-requires : tie.Need-larger-requires
-larger-requires c κs = search rules
+larger-from-requires : tie.Need-larger-from-requires
+larger-from-requires c κs = search rules
 
-wide-requires-4 : tie.Need-wide-requires-4
-wide-requires-4 c κs = search rules
+wide-start-requires : tie.Need-wide-start-requires
+wide-start-requires c κs = search rules
 
-mul-start : tie.Need-overflow-mul-start
-mul-start c = search rules
+overflow_mul-start : tie.Need-overflow_mul-start
+overflow_mul-start c = search rules
 
-mul-write-place : tie.Need-overflow-mul-write-place
-mul-write-place c = search rules
+offset_bounds-words-start : tie.Need-offset_bounds-words-start
+offset_bounds-words-start c = search rules
 
-sub-write-place : tie.Need-overflow-sub-write-place
-sub-write-place c = search rules
+slice_bounds-write_place-count : tie.Need-slice_bounds-write_place-count
+slice_bounds-write_place-count c = search rules
 
-part-write-place-start : tie.Need-slice-bounds-write-place-start
-part-write-place-start c = search rules
+slice_bounds-write_place-start : tie.Need-slice_bounds-write_place-start
+slice_bounds-write_place-start c = search rules
 
-part-write-place-end : tie.Need-slice-bounds-write-place-end
-part-write-place-end c = search rules
+slice_bounds-write_place-end : tie.Need-slice_bounds-write_place-end
+slice_bounds-write_place-end c = search rules
 
 -- the place is held
-kept : (c : tie.After-position) → let a = (entry (read c)).args in let slot = get_or a.work.now (read c).before.wide.result 0 in
+kept : (c : tie.After-position-position) → let a = (entry (read c)).args in let slot = get_or a.work.now (read c).before.wide.result 0 in
     place_at a.n a.plan.now a.work.now a.divisor a.i a.j
-    ≡ records_of (formula_at a.n a.work.now slot c.position.result a.divisor a.i a.j)
+    ≡ records_of (formula_at a.n a.work.now slot c.position-position.result a.divisor a.i a.j)
 kept c =
     let p = (entry (read c)).requires in
     let wide = (read c).before.wide in
-    place_kept p.0 p.1.0 wide.result _ (ap suc wide.ensures ∙ p.1.1.0.here) c.position.result c.before.if1.false
-    (position-found p.0 p.1.0 p.1.1.0 _ c.position.ensures)
+    place_kept p.0 p.1.0 wide.result _ (ap suc wide.ensures ∙ p.1.1.0.here) c.position-position.result c.if-slot-eq0.false
+    (position-found p.0 p.1.0 p.1.1.0 _ c.position-position.ensures)
 
-write-place-requires : tie.Need-write-place-requires
-write-place-requires c κs =
+write_place-after-requires : tie.Need-write_place-after-requires
+write_place-after-requires c κs =
     let f = found c.before in
     let p = (entry (read f)).requires in
-    let wide2 = c.before.before.before.before.before.before.wide2 in
-    let wide3 = c.before.before.before.before.wide3 in
-    let none = inner-none p.0 _ _ _ _ _ p.1.0 wide2.ensures wide3.ensures c.before.before.larger.ensures in
-    (p.0.covers, (p.1.0, (none, lent_room (ap (◌*◌ 4) c.before.wide4.ensures) (rw (kept f) at p.1.1.1))))
+    let wide2 = c.wide-2 in
+    let wide3 = c.wide-3 in
+    let none = inner-none p.0 _ _ _ _ _ p.1.0 wide2.ensures wide3.ensures c.larger-from.ensures in
+    (p.0.covers, (p.1.0, (none, lent_room (ap (◌*◌ 4) c.wide-start.ensures) (rw (kept f) at p.1.1.1))))
 
-larger-requires-2 : tie.Need-larger-requires-2
+larger-requires-2 : tie.Need-larger-requires
 larger-requires-2 c κs = search rules
 
-same_length : tie.Need-same-length
-same_length c = search rules
+shape_of-words : tie.Need-shape_of-words
+shape_of-words c = search rules
 
-returns-2 : tie.Need-returns-2
+returns-2 : tie.Need-returns
 returns-2 c =
     let f = found (begun c) in
     let p = (entry (read f)).requires in (
-      rw (kept f) (lent_back (ap (◌*◌ 4) (begun c).wide4.ensures) c.before.before.before.write-place.ensures),
-      (add-one _, c.larger2.ensures ∙ passed-kept p.0 p.1.0 p.1.1.0 _ f.position.ensures),
+      rw (kept f) (lent_back (ap (◌*◌ 4) (begun c).wide4.ensures) c.write_place-after.ensures),
+      (add-one _, c.larger.ensures ∙ passed-kept p.0 p.1.0 p.1.1.0 _ f.position-position.ensures),
     )
 
 pub write_next_spec : {M : Type 1} → statement M
@@ -131,25 +131,25 @@ write_next_spec =
     tie.close
     (tie.spec
     wide-requires
-    mul-slot
-    shared-slice-read-slot
-    add-label
-    returns
-    position-requires
+    offset_bounds-work-wide
+    bounds-work-wide
+    overflow_add-label
+    returns-then-slot-eq0
+    position-position-requires
     wide-requires-2
-    mul-larger
-    shared-slice-read-larger
+    offset_bounds-rows-wide
+    bounds-rows-wide
     wide-requires-3
-    mul-larger-2
-    shared-slice-read-larger-2
-    larger-requires
-    wide-requires-4
-    mul-start
-    mul-write-place
-    sub-write-place
-    part-write-place-start
-    part-write-place-end
-    write-place-requires
+    offset_bounds-columns-wide
+    bounds-columns-wide
+    larger-from-requires
+    wide-start-requires
+    overflow_mul-start
+    offset_bounds-words-start
+    slice_bounds-write_place-count
+    slice_bounds-write_place-start
+    slice_bounds-write_place-end
+    write_place-after-requires
     larger-requires-2
-    same_length
+    shape_of-words
     returns-2)

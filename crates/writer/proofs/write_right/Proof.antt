@@ -12,91 +12,91 @@ use Rattle.writer.proofs.Written.{wrote_length}
 use Rattle.writer.proofs.write_right.Statement.{statement}
 use Rattle.writer.proofs.write_right.Tie as tie
 
-abbrev invariant-loop : tie.invariant-loop
-invariant-loop n work rest₀ first k i next₀ h₀ across₀ rest next h across =
+abbrev invariant-loop-h : tie.invariant-loop-h
+invariant-loop-h n work rest₀ first k i next₀ h₀ across₀ rest next h across =
     Falling (product_at n work 6 i) first k n i rest₀ next h rest × (i < h → across ≡ label n i h)
 
-abbrev decreases-loop : tie.decreases-loop
-decreases-loop n work rest₀ first k i next₀ h₀ across₀ rest next h across = h
+abbrev decreases-loop-h : tie.decreases-loop-h
+decreases-loop-h n work rest₀ first k i next₀ h₀ across₀ rest next h across = h
 
 -- Places of the code: a turn, seen from its end, and the entry, seen from the loop's head.
 abbrev Turn : Type 0
-Turn = tie.In-loop invariant-loop decreases-loop
+Turn = tie.In-loop-h invariant-loop-h decreases-loop-h
 
-abbrev entry : tie.At-loop invariant-loop decreases-loop → tie.Start invariant-loop decreases-loop
+abbrev entry : tie.At-loop-h invariant-loop-h decreases-loop-h → tie.Start invariant-loop-h decreases-loop-h
 entry c = c.before.before.before.before.before
 
-abbrev turn : tie.After-slice-known2 invariant-loop decreases-loop → Turn
+abbrev turn : tie.After-slice_known-in-loop-h-1 invariant-loop-h decreases-loop-h → Turn
 turn c = c.before.before.before.before.before
 
-label-requires : tie.Need-label-requires invariant-loop decreases-loop
+label-requires : tie.Need-label-requires invariant-loop-h decreases-loop-h
 label-requires c κs = search rules
 
-wide-requires : tie.Need-wide-requires invariant-loop decreases-loop
-wide-requires c κs = search rules
+wide-across-requires : tie.Need-wide-across-requires invariant-loop-h decreases-loop-h
+wide-across-requires c κs = search rules
 
-loop-holds : tie.Need-loop-init invariant-loop decreases-loop
+loop-holds : tie.Need-loop-h-init invariant-loop-h decreases-loop-h
 loop-holds c =
     let start = c.before.before.before.before in (
       falling_starts (omega arith) start.requires.1.1,
-      λ above. c.wide.ensures ∙ (c.before.label.ensures ∙ label-answered _ _ _ start.requires.0.high (omega arith)),
+      λ above. c.wide-across.ensures ∙ (c.label.ensures ∙ label-answered _ _ _ start.requires.0.high (omega arith)),
     )
 
-here : (c : Turn) → let a = (entry c.before).args in let l = c.before.loop in Stands a.n a.work.now a.i l.h l.across
-here c = stands (entry c.before).pre.0 (omega arith) (c.before.loop.invariant.1 c.loop-test.true)
+here : (c : Turn) → let a = (entry c.before).args in let l = c.loop-h in Stands a.n a.work.now a.i l.h l.across
+here c = stands (entry c.before).pre.0 (omega arith) (c.loop-h.invariant.1 c.loop-h-test.true)
 
-sub-subtract : tie.Need-overflow-sub-subtract invariant-loop decreases-loop
-sub-subtract c = omega (arith, here c.before)
+overflow_sub-across : tie.Need-overflow_sub-across invariant-loop-h decreases-loop-h
+overflow_sub-across c = omega (arith, here c.before)
 
-mul-subtract : tie.Need-overflow-mul-subtract invariant-loop decreases-loop
-mul-subtract c = omega (arith, here c.before)
+offset_bounds-work-across : tie.Need-offset_bounds-work-across invariant-loop-h decreases-loop-h
+offset_bounds-work-across c = omega (arith, here c.before)
 
-shared-slice-read-subtract : tie.Need-shared-slice-read-subtract invariant-loop decreases-loop
-shared-slice-read-subtract c = omega (arith, here c.before.before)
+bounds-work-across : tie.Need-bounds-work-across invariant-loop-h decreases-loop-h
+bounds-work-across c = omega (arith, here c.before.before)
 
-subtract-requires : tie.Need-subtract-requires invariant-loop decreases-loop
-subtract-requires c κs =
+subtract-next-requires : tie.Need-subtract-next-requires invariant-loop-h decreases-loop-h
+subtract-next-requires c κs =
     let t = c.before.before in
-    rw (product_at_is _ (here t)) at (falling-room t.before.loop.invariant.0 t.loop-test.true)
+    rw (product_at_is _ (here t)) at (falling-room t.loop-h.invariant.0 t.loop-h-test.true)
 
-sub-across : tie.Need-overflow-sub-across invariant-loop decreases-loop
-sub-across c = omega (arith, here (turn c))
+overflow_sub-across-in-loop-h : tie.Need-overflow_sub-across-in-loop-h invariant-loop-h decreases-loop-h
+overflow_sub-across-in-loop-h c = omega (arith, here (turn c))
 
-sub-h : tie.Need-overflow-sub-h invariant-loop decreases-loop
-sub-h c = omega arith
+overflow_sub-h : tie.Need-overflow_sub-h invariant-loop-h decreases-loop-h
+overflow_sub-h c = omega arith
 
-loop-less : tie.Need-loop-smaller invariant-loop decreases-loop
+loop-less : tie.Need-loop-h-smaller invariant-loop-h decreases-loop-h
 loop-less c = omega arith
 
-loop-again : tie.Need-loop-preserved invariant-loop decreases-loop
+loop-again : tie.Need-loop-h-preserved invariant-loop-h decreases-loop-h
 loop-again c =
     let t = turn c in (
-      falling_more t.before.loop.inv.0 t.loop-test.taken (rw (← product_at_is _ (here t)) at c.before.before.subtract.ensures),
+      falling_more t.loop-h.inv.0 t.loop-h-test.taken (rw (← product_at_is _ (here t)) at c.subtract-next.ensures),
       label-left _ _ _ _ (here t).is,
     )
 
-returns : tie.Need-returns invariant-loop decreases-loop
-returns c = falling-ends c.before.loop.invariant.0 c.loop-test.false
+returns : tie.Need-returns invariant-loop-h decreases-loop-h
+returns c = falling-ends c.loop-h.invariant.0 c.loop-h-test.false
 
-same_length : tie.Need-same-length invariant-loop decreases-loop
-same_length c = wrote_length (entry c.before).pre.1.1 (returns c)
+shape_of-rest : tie.Need-shape_of-rest invariant-loop-h decreases-loop-h
+shape_of-rest c = wrote_length (entry c.before).pre.1.1 (returns c)
 
 pub write_right_spec : {M : Type 1} → statement M
 write_right_spec =
     tie.close
     (tie.spec
-    invariant-loop
-    decreases-loop
+    invariant-loop-h
+    decreases-loop-h
     label-requires
-    wide-requires
+    wide-across-requires
     loop-holds
-    sub-subtract
-    mul-subtract
-    shared-slice-read-subtract
-    subtract-requires
-    sub-across
-    sub-h
+    overflow_sub-across
+    offset_bounds-work-across
+    bounds-work-across
+    subtract-next-requires
+    overflow_sub-across-in-loop-h
+    overflow_sub-h
     loop-less
     loop-again
-    same_length
+    shape_of-rest
     returns)

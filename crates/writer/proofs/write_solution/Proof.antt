@@ -9,75 +9,75 @@ use Rattle.writer.proofs.Written.{lent_room, lent_back, wrote_length}
 use Rattle.writer.proofs.write_solution.Statement.{statement}
 use Rattle.writer.proofs.write_solution.Tie as tie
 
-abbrev invariant-loop : tie.invariant-loop
-invariant-loop n work words₀ k next₀ i₀ words next i = Falling (x_at n work) 0 k n 0 words₀ next i words
+abbrev invariant-loop-i : tie.invariant-loop-i
+invariant-loop-i n work words₀ k next₀ i₀ words next i = Falling (x_at n work) 0 k n 0 words₀ next i words
 
-abbrev decreases-loop : tie.decreases-loop
-decreases-loop n work words₀ k next₀ i₀ words next i = i
+abbrev decreases-loop-i : tie.decreases-loop-i
+decreases-loop-i n work words₀ k next₀ i₀ words next i = i
 
-loop-holds : tie.Need-loop-init invariant-loop decreases-loop
-loop-holds c = falling_starts (omega arith) c.before.before.requires.1
+loop-holds : tie.Need-loop-i-init invariant-loop-i decreases-loop-i
+loop-holds c = falling_starts (omega arith) c.requires.1
 
-wide-requires : tie.Need-wide-requires invariant-loop decreases-loop
-wide-requires c κs = search rules
+wide-start-requires : tie.Need-wide-start-requires invariant-loop-i decreases-loop-i
+wide-start-requires c κs = search rules
 
-mul-start : tie.Need-overflow-mul-start invariant-loop decreases-loop
-mul-start c = search rules
+overflow_mul-start : tie.Need-overflow_mul-start invariant-loop-i decreases-loop-i
+overflow_mul-start c = search rules
 
-mul-write-backward : tie.Need-overflow-mul-write-backward invariant-loop decreases-loop
-mul-write-backward c = search rules
+offset_bounds-words-start : tie.Need-offset_bounds-words-start invariant-loop-i decreases-loop-i
+offset_bounds-words-start c = search rules
 
-sub-write-backward : tie.Need-overflow-sub-write-backward invariant-loop decreases-loop
-sub-write-backward c = search rules
+slice_bounds-write_backward-count : tie.Need-slice_bounds-write_backward-count invariant-loop-i decreases-loop-i
+slice_bounds-write_backward-count c = search rules
 
-part-write-backward-start : tie.Need-slice-bounds-write-backward-start invariant-loop decreases-loop
-part-write-backward-start c = search rules
+slice_bounds-write_backward-start : tie.Need-slice_bounds-write_backward-start invariant-loop-i decreases-loop-i
+slice_bounds-write_backward-start c = search rules
 
-part-write-backward-end : tie.Need-slice-bounds-write-backward-end invariant-loop decreases-loop
-part-write-backward-end c = search rules
+slice_bounds-write_backward-end : tie.Need-slice_bounds-write_backward-end invariant-loop-i decreases-loop-i
+slice_bounds-write_backward-end c = search rules
 
-write-backward-requires : tie.Need-write-backward-requires invariant-loop decreases-loop
+write_backward-next-requires : tie.Need-write_backward-next-requires invariant-loop-i decreases-loop-i
 unfolding x_at
-write-backward-requires c κs =
+write_backward-next-requires c κs =
     let t = c.before.before in
-    let room = falling-room t.before.loop.invariant t.loop-test.true in
-    (t.before.before.before.before.requires.0, (omega arith, lent_room (ap (◌*◌ 4) c.before.wide.ensures) room))
+    let room = falling-room t.loop-i.invariant t.loop-i-test.true in
+    (t.requires.0, (omega arith, lent_room (ap (◌*◌ 4) c.wide-start.ensures) room))
 
-sub-i : tie.Need-overflow-sub-i invariant-loop decreases-loop
-sub-i c = omega arith
+overflow_sub-i : tie.Need-overflow_sub-i invariant-loop-i decreases-loop-i
+overflow_sub-i c = omega arith
 
-loop-less : tie.Need-loop-smaller invariant-loop decreases-loop
+loop-less : tie.Need-loop-i-smaller invariant-loop-i decreases-loop-i
 loop-less c = omega arith
 
-loop-again : tie.Need-loop-preserved invariant-loop decreases-loop
+loop-again : tie.Need-loop-i-preserved invariant-loop-i decreases-loop-i
 unfolding x_at
 loop-again c =
     let w = c.before.before.before.before in
     let t = w.before in
-    falling_more t.before.loop.invariant t.loop-test.true (lent_back (ap (◌*◌ 4) w.wide.ensures) c.before.before.write-backward.ensures)
+    falling_more t.loop-i.invariant t.loop-i-test.true (lent_back (ap (◌*◌ 4) w.wide-start.ensures) c.write_backward-next.ensures)
 
-returns : tie.Need-returns invariant-loop decreases-loop
-returns c = falling-ends c.before.loop.invariant c.loop-test.false
+returns : tie.Need-returns invariant-loop-i decreases-loop-i
+returns c = falling-ends c.loop-i.invariant c.loop-i-test.false
 
-same_length : tie.Need-same-length invariant-loop decreases-loop
-same_length c = wrote_length c.before.before.before.before.requires.1 (returns c)
+shape_of-words : tie.Need-shape_of-words invariant-loop-i decreases-loop-i
+shape_of-words c = wrote_length c.requires.1 (returns c)
 
 pub write_solution_spec : {M : Type 1} → statement M
 write_solution_spec =
     tie.close
     (tie.spec
-    invariant-loop
-    decreases-loop
+    invariant-loop-i
+    decreases-loop-i
     loop-holds
-    wide-requires
-    mul-start
-    mul-write-backward
-    sub-write-backward
-    part-write-backward-start
-    part-write-backward-end
-    write-backward-requires
-    sub-i
+    wide-start-requires
+    overflow_mul-start
+    offset_bounds-words-start
+    slice_bounds-write_backward-count
+    slice_bounds-write_backward-start
+    slice_bounds-write_backward-end
+    write_backward-next-requires
+    overflow_sub-i
     loop-less
     loop-again
-    same_length
+    shape_of-words
     returns)

@@ -15,53 +15,53 @@ use Rattle.sides.proofs.Cells.{one_ended, one_goes, one-divides}
 use Rattle.sides.proofs.each.divide_one.Statement.{statement}
 use Rattle.sides.proofs.each.divide_one.Tie as tie
 
-mul-if1 : tie.Need-overflow-mul-if1
-mul-if1 c = search rules
+overflow_mul-r : tie.Need-overflow_mul-r
+overflow_mul-r c = search rules
 
-add-if1 : tie.Need-overflow-add-if1
-add-if1 c = search rules
+overflow_add-r : tie.Need-overflow_add-r
+overflow_add-r c = search rules
 
-mul-if1-2 : tie.Need-overflow-mul-if1-2
-mul-if1-2 c = search rules
+offset_bounds-out-r : tie.Need-offset_bounds-out-r
+offset_bounds-out-r c = search rules
 
-slice-read-if1 : tie.Need-slice-read-if1
-slice-read-if1 c = search rules
+bounds-out-r : tie.Need-bounds-out-r
+bounds-out-r c = search rules
 
-returns : tie.Need-returns
-returns c = one_ended _ _ _ _ c.if1.true
+returns-then-out-r-ne0 : tie.Need-returns-then-out-r-ne0
+returns-then-out-r-ne0 c = one_ended _ _ _ _ c.if-out-r-ne0.true
 
-mul-quotient : tie.Need-overflow-mul-quotient
-mul-quotient c = search rules
+offset_bounds-running-r : tie.Need-offset_bounds-running-r
+offset_bounds-running-r c = search rules
 
-slice-read-quotient : tie.Need-slice-read-quotient
-slice-read-quotient c = search rules
+bounds-running-r : tie.Need-bounds-running-r
+bounds-running-r c = search rules
 
 quotient-requires : tie.Need-quotient-requires
 quotient-requires c κs = search rules
 
-enum-known-value : tie.Need-enum-known-value
-enum-known-value c = search rules
+enum_known-value : tie.Need-enum_known-value
+enum_known-value c = search rules
 
-enum-known-value-2 : tie.Need-enum-known-value-2
-enum-known-value-2 c = search rules
+enum_known-value-in-Vanished-1 : tie.Need-enum_known-value-in-Vanished-1
+enum_known-value-in-Vanished-1 c = search rules
 
-enum_told : tie.Need-enum-told
-enum_told c = search rules
+enum_told-1 : tie.Need-enum_told-1
+enum_told-1 c = search rules
 
-end-one-requires : tie.Need-end-one-requires
-end-one-requires c κs = search rules
+end_one-requires : tie.Need-end_one-requires
+end_one-requires c κs = search rules
 
-enum-told-2 : tie.Need-enum-told-2
-enum-told-2 c = search rules
+enum_told-in-ZeroDivisor : tie.Need-enum_told-in-ZeroDivisor
+enum_told-in-ZeroDivisor c = search rules
 
-end-one-requires-2 : tie.Need-end-one-requires-2
-end-one-requires-2 c κs = search rules
+end_one-requires-in-ZeroDivisor : tie.Need-end_one-requires-in-ZeroDivisor
+end_one-requires-in-ZeroDivisor c κs = search rules
 
-mul-running : tie.Need-overflow-mul-running
-mul-running c = search rules
+offset_bounds-running-r-in-Number : tie.Need-offset_bounds-running-r-in-Number
+offset_bounds-running-r-in-Number c = search rules
 
-slice-write-running : tie.Need-slice-write-running
-slice-write-running c = search rules
+bounds-running-r-in-Number : tie.Need-bounds-running-r-in-Number
+bounds-running-r-in-Number c = search rules
 
 -- the entry, seen from where the operation is made
 abbrev start : tie.After-quotient → tie.Start
@@ -71,67 +71,67 @@ start c = c.before.before.before.before.before.before
 found : (c : tie.After-quotient) {o : Operation} → c.quotient.result ≡ o → {running' : List Float} {out' : List ℕ} → let a = (start c).args in
     One a.r (answered a.at (answer_of o) false) a.running.now a.out.now running' out'
     → One a.r (if_going (divided a.at a.by)) a.running.now a.out.now running' out'
-found c e one = one-divides _ _ _ _ (omega arith) c.before.before.if1.false e one _ c.quotient.ensures.0
+found c e one = one-divides _ _ _ _ (omega arith) c.if-out-r-ne0.false e one _ c.quotient.ensures.0
 
-same_length : tie.Need-same-length
-same_length c = search rules
+shape_of-running-in-Overflow : tie.Need-shape_of-running-in-Overflow
+shape_of-running-in-Overflow c = search rules
 
-same-length-2 : tie.Need-same-length-2
-same-length-2 c = search rules
+shape_of-out-in-Overflow : tie.Need-shape_of-out-in-Overflow
+shape_of-out-in-Overflow c = search rules
 
-returns-2 : tie.Need-returns-2
-returns-2 c =
+returns-in-Overflow : tie.Need-returns-in-Overflow
+returns-in-Overflow c =
     let call = c.before.before.before.before in
     let told = call.before.before.before in
-    found told.before.before told.enum_told.given.1 call.end-one.ensures
+    found told.before.before told.enum_told-1.given.1 call.end_one.ensures
 
-same-length-3 : tie.Need-same-length-3
-same-length-3 c = search rules
+shape_of-running-in-ZeroDivisor : tie.Need-shape_of-running-in-ZeroDivisor
+shape_of-running-in-ZeroDivisor c = search rules
 
-same-length-4 : tie.Need-same-length-4
-same-length-4 c = search rules
+shape_of-out-in-ZeroDivisor : tie.Need-shape_of-out-in-ZeroDivisor
+shape_of-out-in-ZeroDivisor c = search rules
 
-returns-3 : tie.Need-returns-3
-returns-3 c =
+returns-in-ZeroDivisor : tie.Need-returns-in-ZeroDivisor
+returns-in-ZeroDivisor c =
     let call = c.before.before.before.before in
     let told = call.before.before.before in
-    found told.before.before told.enum-told2.given.1 call.end-one2.ensures
+    found told.before.before told.enum_told-in-ZeroDivisor-1.given.1 call.end_one-in-ZeroDivisor.ensures
 
-same-length-5 : tie.Need-same-length-5
-same-length-5 c = search rules
+shape_of-running-in-Number : tie.Need-shape_of-running-in-Number
+shape_of-running-in-Number c = search rules
 
-returns-4 : tie.Need-returns-4
-returns-4 c =
+returns-in-Number : tie.Need-returns-in-Number
+returns-in-Number c =
     ⊎_elim
-    (λ w. found c.before {o = Number c.match.value} (w.1.given.1 ∙ ap Number (sym w.3)) (one_goes _ _ _ _ (omega arith)))
-    (λ w. found c.before {o = Vanished c.match.value} (w.1.given.1 ∙ ap Vanished (sym w.3)) (one_goes _ _ _ _ (omega arith)))
-    c.match.branch
+    (λ w. found c.before {o = Number c.match-quotient.value} (w.1.given.1 ∙ ap Number (sym w.3)) (one_goes _ _ _ _ (omega arith)))
+    (λ w. found c.before {o = Vanished c.match-quotient.value} (w.1.given.1 ∙ ap Vanished (sym w.3)) (one_goes _ _ _ _ (omega arith)))
+    c.match-quotient.branch
 
 pub divide_one_spec : {M : Type 1} → statement M
 divide_one_spec =
     tie.close
     (tie.spec
-    mul-if1
-    add-if1
-    mul-if1-2
-    slice-read-if1
-    returns
-    mul-quotient
-    slice-read-quotient
+    overflow_mul-r
+    overflow_add-r
+    offset_bounds-out-r
+    bounds-out-r
+    returns-then-out-r-ne0
+    offset_bounds-running-r
+    bounds-running-r
     quotient-requires
-    enum-known-value
-    enum-known-value-2
-    enum_told
-    end-one-requires
-    enum-told-2
-    end-one-requires-2
-    mul-running
-    slice-write-running
-    same_length
-    same-length-2
-    returns-2
-    same-length-3
-    same-length-4
-    returns-3
-    same-length-5
-    returns-4)
+    enum_known-value
+    enum_known-value-in-Vanished-1
+    enum_told-1
+    end_one-requires
+    enum_told-in-ZeroDivisor
+    end_one-requires-in-ZeroDivisor
+    offset_bounds-running-r-in-Number
+    bounds-running-r-in-Number
+    shape_of-running-in-Overflow
+    shape_of-out-in-Overflow
+    returns-in-Overflow
+    shape_of-running-in-ZeroDivisor
+    shape_of-out-in-ZeroDivisor
+    returns-in-ZeroDivisor
+    shape_of-running-in-Number
+    returns-in-Number)

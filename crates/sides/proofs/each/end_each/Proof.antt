@@ -9,70 +9,70 @@ use Rattle.sides.proofs.Cells.{one-going, one_ended, Changed, changed-none, chan
 use Rattle.sides.proofs.each.end_each.Statement.{statement}
 use Rattle.sides.proofs.each.end_each.Tie as tie
 
-abbrev invariant-loop : tie.invariant-loop
-invariant-loop number at count running₀ out₀ r₀ running out r = Changed count r (λ s. if_going (ended_by at number)) running₀ out₀ running out
+abbrev invariant-loop-r : tie.invariant-loop-r
+invariant-loop-r number at count running₀ out₀ r₀ running out r = Changed count r (λ s. if_going (ended_by at number)) running₀ out₀ running out
 
-abbrev decreases-loop : tie.decreases-loop
-decreases-loop number at count running₀ out₀ r₀ running out r = count - r
+abbrev decreases-loop-r : tie.decreases-loop-r
+decreases-loop-r number at count running₀ out₀ r₀ running out r = count - r
 
-loop-holds : tie.Need-loop-init invariant-loop decreases-loop
-loop-holds c = changed-none _ _ _ c.before.before.requires
+loop-holds : tie.Need-loop-r-init invariant-loop-r decreases-loop-r
+loop-holds c = changed-none _ _ _ c.requires
 
-mul-if1 : tie.Need-overflow-mul-if1 invariant-loop decreases-loop
-mul-if1 c = omega arith
+overflow_mul-r : tie.Need-overflow_mul-r invariant-loop-r decreases-loop-r
+overflow_mul-r c = omega arith
 
-add-if1 : tie.Need-overflow-add-if1 invariant-loop decreases-loop
-add-if1 c = omega arith
+overflow_add-r : tie.Need-overflow_add-r invariant-loop-r decreases-loop-r
+overflow_add-r c = omega arith
 
-mul-if1-2 : tie.Need-overflow-mul-if1-2 invariant-loop decreases-loop
-mul-if1-2 c = omega arith
+offset_bounds-out-r : tie.Need-offset_bounds-out-r invariant-loop-r decreases-loop-r
+offset_bounds-out-r c = omega arith
 
-slice-read-if1 : tie.Need-slice-read-if1 invariant-loop decreases-loop
-slice-read-if1 c = omega arith
+bounds-out-r : tie.Need-bounds-out-r invariant-loop-r decreases-loop-r
+bounds-out-r c = omega arith
 
-end-one-requires : tie.Need-end-one-requires invariant-loop decreases-loop
-end-one-requires c κs = search rules
+end_one-requires : tie.Need-end_one-requires invariant-loop-r decreases-loop-r
+end_one-requires c κs = search rules
 
-add_r : tie.Need-overflow-add-r invariant-loop decreases-loop
-add_r c = omega arith
+overflow_step-r : tie.Need-overflow_step-r invariant-loop-r decreases-loop-r
+overflow_step-r c = omega arith
 
-loop-less : tie.Need-loop-smaller invariant-loop decreases-loop
+loop-less : tie.Need-loop-r-smaller invariant-loop-r decreases-loop-r
 loop-less c = omega arith
 
-loop-again : tie.Need-loop-preserved invariant-loop decreases-loop
+loop-again : tie.Need-loop-r-preserved invariant-loop-r decreases-loop-r
 loop-again c =
     let turn = c.before.before.before in
     ⊎_elim
     (λ w.
     let kept = w.3.kept.1.1.1 in
-    rw (w.8, w.9) (changed_more turn.loop.invariant _ _ (omega arith) kept.0 kept.1.0 (one-going w.3.ensures w.0.taken)))
-    (λ w. rw (w.1, w.2) (changed_more turn.loop.invariant _ _ (omega arith) refl refl (one_ended _ _ _ _ w.0.left)))
-    c.if1.branch
+    rw (w.8, w.9) (changed_more turn.loop-r.invariant _ _ (omega arith) kept.0 kept.1.0 (one-going w.3.ensures w.0.taken)))
+    (λ w. rw (w.1, w.2) (changed_more turn.loop-r.invariant _ _ (omega arith) refl refl (one_ended _ _ _ _ w.0.left)))
+    c.if-out-r-eq0.branch
 
-same_length : tie.Need-same-length invariant-loop decreases-loop
-same_length c = search rules
+shape_of-running : tie.Need-shape_of-running invariant-loop-r decreases-loop-r
+shape_of-running c = search rules
 
-same-length-2 : tie.Need-same-length-2 invariant-loop decreases-loop
-same-length-2 c = search rules
+shape_of-out : tie.Need-shape_of-out invariant-loop-r decreases-loop-r
+shape_of-out c = search rules
 
-returns : tie.Need-returns invariant-loop decreases-loop
-returns c = changed-all c.before.loop.invariant (omega arith)
+returns : tie.Need-returns invariant-loop-r decreases-loop-r
+returns c = changed-all c.loop-r.invariant (omega arith)
 
-pub end-each_spec : {M : Type 1} → statement M
-end-each_spec =
+pub end_each_spec : {M : Type 1} → statement M
+end_each_spec =
     tie.close
     (tie.spec
-    invariant-loop
-    decreases-loop
+    invariant-loop-r
+    decreases-loop-r
     loop-holds
-    mul-if1
-    add-if1
-    mul-if1-2
-    slice-read-if1
-    end-one-requires
-    add_r
+    overflow_mul-r
+    overflow_add-r
+    offset_bounds-out-r
+    bounds-out-r
+    end_one-requires
+    overflow_step-r
     loop-less
     loop-again
-    same_length
-    same-length-2
+    shape_of-running
+    shape_of-out
     returns)

@@ -12,83 +12,83 @@ use Rattle.sides.proofs.Cells.{one_as, Changed, changed-none, changed_more, chan
 use Rattle.sides.proofs.each.subtract_each.Statement.{statement}
 use Rattle.sides.proofs.each.subtract_each.Tie as tie
 
-abbrev invariant-loop : tie.invariant-loop
-invariant-loop factor values order entry at count running₀ out₀ r₀ running out r =
+abbrev invariant-loop-r : tie.invariant-loop-r
+invariant-loop-r factor values order entry at count running₀ out₀ r₀ running out r =
     Changed count r (λ s. if_going (subtracted at factor (get_or values (s * order + entry) plus_zero))) running₀ out₀ running out
 
-abbrev decreases-loop : tie.decreases-loop
-decreases-loop factor values order entry at count running₀ out₀ r₀ running out r = count - r
+abbrev decreases-loop-r : tie.decreases-loop-r
+decreases-loop-r factor values order entry at count running₀ out₀ r₀ running out r = count - r
 
-loop-holds : tie.Need-loop-init invariant-loop decreases-loop
-loop-holds c = changed-none _ _ _ c.before.before.before.requires.0
+loop-holds : tie.Need-loop-r-init invariant-loop-r decreases-loop-r
+loop-holds c = changed-none _ _ _ c.requires.0
 
 -- the entry, and the turn's value, which stands in the table
-abbrev start : tie.In-loop invariant-loop decreases-loop → tie.Start invariant-loop decreases-loop
+abbrev start : tie.In-loop-r invariant-loop-r decreases-loop-r → tie.Start invariant-loop-r decreases-loop-r
 start c = c.before.before.before.before.before
 
-within : (c : tie.In-loop invariant-loop decreases-loop)
-    → c.before.loop.r * (start c).args.order + (start c).args.entry < length (start c).args.values.now
-within c = laid_within c.before.loop.r (start c).requires.1.0 (omega arith)
+within : (c : tie.In-loop-r invariant-loop-r decreases-loop-r)
+    → c.loop-r.r * (start c).args.order + (start c).args.entry < length (start c).args.values.now
+within c = laid_within c.loop-r.r (start c).requires.1.0 (omega arith)
 
-mul-value : tie.Need-overflow-mul-value invariant-loop decreases-loop
-mul-value c = omega (arith, within c)
+overflow_mul-value : tie.Need-overflow_mul-value invariant-loop-r decreases-loop-r
+overflow_mul-value c = omega (arith, within c)
 
-add-value : tie.Need-overflow-add-value invariant-loop decreases-loop
-add-value c = omega (arith, within c)
+overflow_add-value : tie.Need-overflow_add-value invariant-loop-r decreases-loop-r
+overflow_add-value c = omega (arith, within c)
 
-mul-value-2 : tie.Need-overflow-mul-value-2 invariant-loop decreases-loop
-mul-value-2 c = omega (arith, within c)
+offset_bounds-values-r : tie.Need-offset_bounds-values-r invariant-loop-r decreases-loop-r
+offset_bounds-values-r c = omega (arith, within c)
 
-shared-slice-read-value : tie.Need-shared-slice-read-value invariant-loop decreases-loop
-shared-slice-read-value c = within c.before
+bounds-values-r : tie.Need-bounds-values-r invariant-loop-r decreases-loop-r
+bounds-values-r c = within c.before
 
-subtract-one-requires : tie.Need-subtract-one-requires invariant-loop decreases-loop
-subtract-one-requires c κs =
+subtract_one-requires : tie.Need-subtract_one-requires invariant-loop-r decreases-loop-r
+subtract_one-requires c κs =
     let turn = c.before.before.before in
-    let l = turn.before.loop in
+    let l = turn.loop-r in
     ((omega arith, (omega arith, omega arith)), omega (arith, (start turn).requires.1.1 l.r (omega arith), l.invariant.each.past (4 * l.r + 4) (omega arith)))
 
-add_r : tie.Need-overflow-add-r invariant-loop decreases-loop
-add_r c = omega arith
+overflow_step-r : tie.Need-overflow_step-r invariant-loop-r decreases-loop-r
+overflow_step-r c = omega arith
 
-loop-less : tie.Need-loop-smaller invariant-loop decreases-loop
+loop-less : tie.Need-loop-r-smaller invariant-loop-r decreases-loop-r
 loop-less c = omega arith
 
-loop-again : tie.Need-loop-preserved invariant-loop decreases-loop
+loop-again : tie.Need-loop-r-preserved invariant-loop-r decreases-loop-r
 loop-again c =
     let call = c.before.before.before.before in
     let turn = call.before.before.before.before in
     let a = (start turn).args in
-    let l = turn.before.loop in
-    let kept = call.subtract-one.auto.1.1.1.1 in
+    let l = turn.loop-r in
+    let kept = call.subtract_one.auto.1.1.1.1 in
     changed_more l.invariant _ _ (omega arith) kept.0 kept.1.0
-    (one_as call.subtract-one.ensures _
+    (one_as call.subtract_one.ensures _
     (ap (λ v. if_going (subtracted a.at a.factor v) (cell_of l.running l.out l.r)) (get_or-within a.values.now _ nan plus_zero (within turn))))
 
-same_length : tie.Need-same-length invariant-loop decreases-loop
-same_length c = search rules
+shape_of-running : tie.Need-shape_of-running invariant-loop-r decreases-loop-r
+shape_of-running c = search rules
 
-same-length-2 : tie.Need-same-length-2 invariant-loop decreases-loop
-same-length-2 c = search rules
+shape_of-out : tie.Need-shape_of-out invariant-loop-r decreases-loop-r
+shape_of-out c = search rules
 
-returns : tie.Need-returns invariant-loop decreases-loop
-returns c = changed-all c.before.loop.invariant (omega arith)
+returns : tie.Need-returns invariant-loop-r decreases-loop-r
+returns c = changed-all c.loop-r.invariant (omega arith)
 
 pub subtract_each_spec : {M : Type 1} → statement M
 subtract_each_spec =
     tie.close
     (tie.spec
-    invariant-loop
-    decreases-loop
+    invariant-loop-r
+    decreases-loop-r
     loop-holds
-    mul-value
-    add-value
-    mul-value-2
-    shared-slice-read-value
-    subtract-one-requires
-    add_r
+    overflow_mul-value
+    overflow_add-value
+    offset_bounds-values-r
+    bounds-values-r
+    subtract_one-requires
+    overflow_step-r
     loop-less
     loop-again
-    same_length
-    same-length-2
+    shape_of-running
+    shape_of-out
     returns)

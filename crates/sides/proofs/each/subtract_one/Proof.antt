@@ -12,77 +12,77 @@ use Rattle.sides.proofs.Cells.{one_ended, one_goes, one-vanishes, one-subtracts}
 use Rattle.sides.proofs.each.subtract_one.Statement.{statement}
 use Rattle.sides.proofs.each.subtract_one.Tie as tie
 
-mul-if1 : tie.Need-overflow-mul-if1
-mul-if1 c = search rules
+overflow_mul-r : tie.Need-overflow_mul-r
+overflow_mul-r c = search rules
 
-add-if1 : tie.Need-overflow-add-if1
-add-if1 c = search rules
+overflow_add-r : tie.Need-overflow_add-r
+overflow_add-r c = search rules
 
-mul-if1-2 : tie.Need-overflow-mul-if1-2
-mul-if1-2 c = search rules
+offset_bounds-out-r : tie.Need-offset_bounds-out-r
+offset_bounds-out-r c = search rules
 
-slice-read-if1 : tie.Need-slice-read-if1
-slice-read-if1 c = search rules
+bounds-out-r : tie.Need-bounds-out-r
+bounds-out-r c = search rules
 
-returns : tie.Need-returns
-returns c = one_ended _ _ _ _ c.if1.true
+returns-then-out-r-ne0 : tie.Need-returns-then-out-r-ne0
+returns-then-out-r-ne0 c = one_ended _ _ _ _ c.if-out-r-ne0.true
 
-mul-less : tie.Need-overflow-mul-less
-mul-less c = search rules
+offset_bounds-running-r : tie.Need-offset_bounds-running-r
+offset_bounds-running-r c = search rules
 
-slice-read-less : tie.Need-slice-read-smaller
-slice-read-less c = search rules
+bounds-running-r : tie.Need-bounds-running-r
+bounds-running-r c = search rules
 
 less-requires : tie.Need-less-requires
 less-requires c κs = search rules
 
-enum-known-value : tie.Need-enum-known-value
-enum-known-value c = search rules
+enum_known-value : tie.Need-enum_known-value
+enum_known-value c = search rules
 
-mul-running : tie.Need-overflow-mul-running
-mul-running c = search rules
+offset_bounds-running-r-in-Number : tie.Need-offset_bounds-running-r-in-Number
+offset_bounds-running-r-in-Number c = search rules
 
-slice-write-running : tie.Need-slice-write-running
-slice-write-running c = search rules
+bounds-running-r-in-Number : tie.Need-bounds-running-r-in-Number
+bounds-running-r-in-Number c = search rules
 
-enum-known-value-2 : tie.Need-enum-known-value-2
-enum-known-value-2 c = search rules
+enum_known-value-in-Vanished-1 : tie.Need-enum_known-value-in-Vanished-1
+enum_known-value-in-Vanished-1 c = search rules
 
-mul-running-2 : tie.Need-overflow-mul-running-2
-mul-running-2 c = search rules
+offset_bounds-running-r-in-Vanished : tie.Need-offset_bounds-running-r-in-Vanished
+offset_bounds-running-r-in-Vanished c = search rules
 
-slice-write-running-2 : tie.Need-slice-write-running-2
-slice-write-running-2 c = search rules
+bounds-running-r-in-Vanished : tie.Need-bounds-running-r-in-Vanished
+bounds-running-r-in-Vanished c = search rules
 
-mul-out : tie.Need-overflow-mul-out
-mul-out c = search rules
+overflow_mul-out : tie.Need-overflow_mul-out
+overflow_mul-out c = search rules
 
-add-out : tie.Need-overflow-add-out
-add-out c = search rules
+overflow_add-out : tie.Need-overflow_add-out
+overflow_add-out c = search rules
 
-mul-out-2 : tie.Need-overflow-mul-out-2
-mul-out-2 c = search rules
+offset_bounds-out-r-in-Vanished : tie.Need-offset_bounds-out-r-in-Vanished
+offset_bounds-out-r-in-Vanished c = search rules
 
-slice-read-out : tie.Need-slice-read-out
-slice-read-out c = search rules
+bounds-out-r-in-Vanished : tie.Need-bounds-out-r-in-Vanished
+bounds-out-r-in-Vanished c = search rules
 
-add-out-2 : tie.Need-overflow-add-out-2
-add-out-2 c = search rules
+overflow_add-out-in-Vanished : tie.Need-overflow_add-out-in-Vanished
+overflow_add-out-in-Vanished c = search rules
 
-slice-write-out : tie.Need-slice-write-out
-slice-write-out c = search rules
+bounds-out-r-in-Vanished-2 : tie.Need-bounds-out-r-in-Vanished-2
+bounds-out-r-in-Vanished-2 c = search rules
 
-enum_told : tie.Need-enum-told
-enum_told c = search rules
+enum_told-1 : tie.Need-enum_told-1
+enum_told-1 c = search rules
 
-end-one-requires : tie.Need-end-one-requires
-end-one-requires c κs = search rules
+end_one-requires : tie.Need-end_one-requires
+end_one-requires c κs = search rules
 
-enum-told-2 : tie.Need-enum-told-2
-enum-told-2 c = search rules
+enum_told-in-ZeroDivisor : tie.Need-enum_told-in-ZeroDivisor
+enum_told-in-ZeroDivisor c = search rules
 
-end-one-requires-2 : tie.Need-end-one-requires-2
-end-one-requires-2 c κs = search rules
+end_one-requires-in-ZeroDivisor : tie.Need-end_one-requires-in-ZeroDivisor
+end_one-requires-in-ZeroDivisor c κs = search rules
 
 -- the entry, seen from where the operation is made
 abbrev start : tie.After-less → tie.Start
@@ -92,83 +92,83 @@ start c = c.before.before.before.before.before.before
 found : (c : tie.After-less) {o : Operation} → c.less.result ≡ o → {running' : List Float} {out' : List ℕ} → let a = (start c).args in
     One a.r (answered a.at (answer_of o) (has_vanished o)) a.running.now a.out.now running' out'
     → One a.r (if_going (subtracted a.at a.factor a.value)) a.running.now a.out.now running' out'
-found c e one = one-subtracts _ _ _ _ (omega arith) c.before.before.if1.false e one _ _ c.less.ensures.0 c.less.ensures.1
+found c e one = one-subtracts _ _ _ _ (omega arith) c.if-out-r-ne0.false e one _ _ c.less.ensures.0 c.less.ensures.1
 
-same_length : tie.Need-same-length
-same_length c = search rules
+shape_of-running-in-Number : tie.Need-shape_of-running-in-Number
+shape_of-running-in-Number c = search rules
 
-returns-2 : tie.Need-returns-2
-returns-2 c = found c.before.before.before c.before.value.given.1 (one_goes _ _ _ _ (omega arith))
+returns-in-Number : tie.Need-returns-in-Number
+returns-in-Number c = found c.before.before.before c.value.given.1 (one_goes _ _ _ _ (omega arith))
 
-same-length-2 : tie.Need-same-length-2
-same-length-2 c = search rules
+shape_of-running-in-Vanished : tie.Need-shape_of-running-in-Vanished
+shape_of-running-in-Vanished c = search rules
 
-same-length-3 : tie.Need-same-length-3
-same-length-3 c = search rules
+shape_of-out-in-Vanished : tie.Need-shape_of-out-in-Vanished
+shape_of-out-in-Vanished c = search rules
 
-returns-3 : tie.Need-returns-3
-returns-3 c = found c.before.before.before.before c.before.before.value2.given.1 (one-vanishes _ _ _ _ (omega arith) (omega arith))
+returns-in-Vanished : tie.Need-returns-in-Vanished
+returns-in-Vanished c = found c.before.before.before.before c.value-in-Vanished-1.given.1 (one-vanishes _ _ _ _ (omega arith) (omega arith))
 
-same-length-4 : tie.Need-same-length-4
-same-length-4 c = search rules
+shape_of-running-in-Overflow : tie.Need-shape_of-running-in-Overflow
+shape_of-running-in-Overflow c = search rules
 
-same-length-5 : tie.Need-same-length-5
-same-length-5 c = search rules
+shape_of-out-in-Overflow : tie.Need-shape_of-out-in-Overflow
+shape_of-out-in-Overflow c = search rules
 
-returns-4 : tie.Need-returns-4
-returns-4 c =
+returns-in-Overflow : tie.Need-returns-in-Overflow
+returns-in-Overflow c =
     let call = c.before.before.before.before in
     let told = call.before.before.before in
-    found told.before.before told.enum_told.given.1 call.end-one.ensures
+    found told.before.before told.enum_told-1.given.1 call.end_one.ensures
 
-same-length-6 : tie.Need-same-length-6
-same-length-6 c = search rules
+shape_of-running-in-ZeroDivisor : tie.Need-shape_of-running-in-ZeroDivisor
+shape_of-running-in-ZeroDivisor c = search rules
 
-same-length-7 : tie.Need-same-length-7
-same-length-7 c = search rules
+shape_of-out-in-ZeroDivisor : tie.Need-shape_of-out-in-ZeroDivisor
+shape_of-out-in-ZeroDivisor c = search rules
 
-returns-5 : tie.Need-returns-5
-returns-5 c =
+returns-in-ZeroDivisor : tie.Need-returns-in-ZeroDivisor
+returns-in-ZeroDivisor c =
     let call = c.before.before.before.before in
     let told = call.before.before.before in
-    found told.before.before told.enum-told2.given.1 call.end-one2.ensures
+    found told.before.before told.enum_told-in-ZeroDivisor-1.given.1 call.end_one-in-ZeroDivisor.ensures
 
 pub subtract_one_spec : {M : Type 1} → statement M
 subtract_one_spec =
     tie.close
     (tie.spec
-    mul-if1
-    add-if1
-    mul-if1-2
-    slice-read-if1
-    returns
-    mul-less
-    slice-read-less
+    overflow_mul-r
+    overflow_add-r
+    offset_bounds-out-r
+    bounds-out-r
+    returns-then-out-r-ne0
+    offset_bounds-running-r
+    bounds-running-r
     less-requires
-    enum-known-value
-    mul-running
-    slice-write-running
-    enum-known-value-2
-    mul-running-2
-    slice-write-running-2
-    mul-out
-    add-out
-    mul-out-2
-    slice-read-out
-    add-out-2
-    slice-write-out
-    enum_told
-    end-one-requires
-    enum-told-2
-    end-one-requires-2
-    same_length
-    returns-2
-    same-length-2
-    same-length-3
-    returns-3
-    same-length-4
-    same-length-5
-    returns-4
-    same-length-6
-    same-length-7
-    returns-5)
+    enum_known-value
+    offset_bounds-running-r-in-Number
+    bounds-running-r-in-Number
+    enum_known-value-in-Vanished-1
+    offset_bounds-running-r-in-Vanished
+    bounds-running-r-in-Vanished
+    overflow_mul-out
+    overflow_add-out
+    offset_bounds-out-r-in-Vanished
+    bounds-out-r-in-Vanished
+    overflow_add-out-in-Vanished
+    bounds-out-r-in-Vanished-2
+    enum_told-1
+    end_one-requires
+    enum_told-in-ZeroDivisor
+    end_one-requires-in-ZeroDivisor
+    shape_of-running-in-Number
+    returns-in-Number
+    shape_of-running-in-Vanished
+    shape_of-out-in-Vanished
+    returns-in-Vanished
+    shape_of-running-in-Overflow
+    shape_of-out-in-Overflow
+    returns-in-Overflow
+    shape_of-running-in-ZeroDivisor
+    shape_of-out-in-ZeroDivisor
+    returns-in-ZeroDivisor)

@@ -9,57 +9,57 @@ use Rattle.slots.proofs.Zeros.{zeros_more}
 use Rattle.slots.proofs.lines.block_is_zero.Statement.{statement}
 use Rattle.slots.proofs.lines.block_is_zero.Tie as tie
 
-abbrev invariant-loop : tie.invariant-loop
-invariant-loop work from most₀ i₀ most i = (i ≤ 16) × (most ≡ 0 → Zeros work from 16 i)
+abbrev invariant-loop-i : tie.invariant-loop-i
+invariant-loop-i work from most₀ i₀ most i = (i ≤ 16) × (most ≡ 0 → Zeros work from 16 i)
 
-abbrev decreases-loop : tie.decreases-loop
-decreases-loop work from most₀ i₀ most i = 16 - i
+abbrev decreases-loop-i : tie.decreases-loop-i
+decreases-loop-i work from most₀ i₀ most i = 16 - i
 
-loop-holds : tie.Need-loop-init invariant-loop decreases-loop
+loop-holds : tie.Need-loop-i-init invariant-loop-i decreases-loop-i
 loop-holds c = (omega arith, λ none. (omega arith, λ k below. absurd (omega arith)))
 
-add-larger : tie.Need-overflow-add-larger invariant-loop decreases-loop
-add-larger c = search rules
+overflow_add-from : tie.Need-overflow_add-from invariant-loop-i decreases-loop-i
+overflow_add-from c = search rules
 
-mul-larger : tie.Need-overflow-mul-larger invariant-loop decreases-loop
-mul-larger c = search rules
+offset_bounds-work-from : tie.Need-offset_bounds-work-from invariant-loop-i decreases-loop-i
+offset_bounds-work-from c = search rules
 
-shared-slice-read-larger : tie.Need-shared-slice-read-larger invariant-loop decreases-loop
-shared-slice-read-larger c = search rules
+bounds-work-from : tie.Need-bounds-work-from invariant-loop-i decreases-loop-i
+bounds-work-from c = search rules
 
-larger-requires : tie.Need-larger-requires invariant-loop decreases-loop
-larger-requires c κs = search rules
+larger-most-requires : tie.Need-larger-most-requires invariant-loop-i decreases-loop-i
+larger-most-requires c κs = search rules
 
-add-i : tie.Need-overflow-add-i invariant-loop decreases-loop
-add-i c = search rules
+overflow_step-i : tie.Need-overflow_step-i invariant-loop-i decreases-loop-i
+overflow_step-i c = search rules
 
-loop-less : tie.Need-loop-smaller invariant-loop decreases-loop
+loop-less : tie.Need-loop-i-smaller invariant-loop-i decreases-loop-i
 loop-less c = search rules
 
-loop-again : tie.Need-loop-preserved invariant-loop decreases-loop
+loop-again : tie.Need-loop-i-preserved invariant-loop-i decreases-loop-i
 loop-again c =
     let l = c.before.before.before in
-    let a = l.before.before.args in (
+    let a = l.args in (
       omega arith,
-      λ none. zeros_more a.work.now a.from 16 _ _ (l.loop.invariant.1 (omega (arith, c.larger.ensures))) refl (omega arith)
-          (omega (arith, c.larger.ensures)),
+      λ none. zeros_more a.work.now a.from 16 _ _ (l.loop-i.invariant.1 (omega (arith, c.larger-most.ensures))) refl (omega arith)
+          (omega (arith, c.larger-most.ensures)),
     )
 
-returns : tie.Need-returns invariant-loop decreases-loop
-returns c e = let all : c.before.loop.i ≡ 16 = omega arith in rw all at (c.before.loop.invariant.1 (eqb-true _ 0 e))
+returns : tie.Need-returns invariant-loop-i decreases-loop-i
+returns c e = let all : c.loop-i.i ≡ 16 = omega arith in rw all at (c.loop-i.invariant.1 (eqb-true _ 0 e))
 
 pub block_is_zero_spec : {M : Type 1} → statement M
 block_is_zero_spec =
     tie.close
     (tie.spec
-    invariant-loop
-    decreases-loop
+    invariant-loop-i
+    decreases-loop-i
     loop-holds
-    add-larger
-    mul-larger
-    shared-slice-read-larger
-    larger-requires
-    add-i
+    overflow_add-from
+    offset_bounds-work-from
+    bounds-work-from
+    larger-most-requires
+    overflow_step-i
     loop-less
     loop-again
     returns)

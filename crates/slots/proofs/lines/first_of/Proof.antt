@@ -4,14 +4,14 @@ use borrow.Author.Rules.{rules}
 use Rattle.slots.proofs.lines.first_of.Statement.{statement}
 use Rattle.slots.proofs.lines.first_of.Tie as tie
 
-add-result : tie.Need-overflow-add-result
-add-result c = search rules
+overflow_add-result : tie.Need-overflow_add-result
+overflow_add-result c = search rules
 
-returns : tie.Need-returns
-returns c = rw c.if1.true (add-one _)
+returns-then-across : tie.Need-returns-then-across
+returns-then-across c = rw c.if-across.true (add-one _)
 
-returns-2 : tie.Need-returns-2
-returns-2 c = search rules
+returns-else-across : tie.Need-returns-else-across
+returns-else-across c = search rules
 
 pub first_of_spec : {M : Type 1} → statement M
-first_of_spec = tie.close (tie.spec add-result returns returns-2)
+first_of_spec = tie.close (tie.spec overflow_add-result returns-then-across returns-else-across)

@@ -7,102 +7,102 @@ use Rattle.slots.proofs.Zeros.{zeros_more, zeros_block}
 use Rattle.slots.proofs.lines.zeros.Statement.{statement}
 use Rattle.slots.proofs.lines.zeros.Tie as tie
 
-abbrev invariant-loop : tie.invariant-loop
-invariant-loop work from most k₀ k = Zeros work from most k
+abbrev invariant-loop-k : tie.invariant-loop-k
+invariant-loop-k work from most k₀ k = Zeros work from most k
 
-abbrev decreases-loop : tie.decreases-loop
-decreases-loop work from most k₀ k = most - k
+abbrev decreases-loop-k : tie.decreases-loop-k
+decreases-loop-k work from most k₀ k = most - k
 
-abbrev invariant-loop2 : tie.invariant-loop2
-invariant-loop2 work from most k₀ k = Zeros work from most k
+abbrev invariant-loop-k-2 : tie.invariant-loop-k-2
+invariant-loop-k-2 work from most k₀ k = Zeros work from most k
 
-abbrev decreases-loop2 : tie.decreases-loop2
-decreases-loop2 work from most k₀ k = most - k
+abbrev decreases-loop-k-2 : tie.decreases-loop-k-2
+decreases-loop-k-2 work from most k₀ k = most - k
 
-loop-holds : tie.Need-loop-init invariant-loop decreases-loop invariant-loop2 decreases-loop2
+loop-holds : tie.Need-loop-k-init invariant-loop-k decreases-loop-k invariant-loop-k-2 decreases-loop-k-2
 loop-holds c = (omega arith, λ k below. absurd (omega arith))
 
-sub-loop : tie.Need-overflow-sub-loop invariant-loop decreases-loop invariant-loop2 decreases-loop2
-sub-loop c = search rules
+overflow_sub-most : tie.Need-overflow_sub-most invariant-loop-k decreases-loop-k invariant-loop-k-2 decreases-loop-k-2
+overflow_sub-most c = search rules
 
-wide-requires : tie.Need-wide-requires invariant-loop decreases-loop invariant-loop2 decreases-loop2
+wide-requires : tie.Need-wide-requires invariant-loop-k decreases-loop-k invariant-loop-k-2 decreases-loop-k-2
 wide-requires c κs = search rules
 
-add-block-is-zero : tie.Need-overflow-add-block-is-zero invariant-loop decreases-loop invariant-loop2 decreases-loop2
-add-block-is-zero c = search rules
+overflow_add-from : tie.Need-overflow_add-from invariant-loop-k decreases-loop-k invariant-loop-k-2 decreases-loop-k-2
+overflow_add-from c = search rules
 
-block-is-zero-requires : tie.Need-block-is-zero-requires invariant-loop decreases-loop invariant-loop2 decreases-loop2
-block-is-zero-requires c κs = search rules
+block_is_zero-requires : tie.Need-block_is_zero-requires invariant-loop-k decreases-loop-k invariant-loop-k-2 decreases-loop-k-2
+block_is_zero-requires c κs = search rules
 
-add-k : tie.Need-overflow-add-k invariant-loop decreases-loop invariant-loop2 decreases-loop2
-add-k c = search rules
+overflow_add-k : tie.Need-overflow_add-k invariant-loop-k decreases-loop-k invariant-loop-k-2 decreases-loop-k-2
+overflow_add-k c = search rules
 
-loop-less : tie.Need-loop-smaller invariant-loop decreases-loop invariant-loop2 decreases-loop2
+loop-less : tie.Need-loop-k-smaller invariant-loop-k decreases-loop-k invariant-loop-k-2 decreases-loop-k-2
 loop-less c = search rules
 
-loop-again : tie.Need-loop-preserved invariant-loop decreases-loop invariant-loop2 decreases-loop2
+loop-again : tie.Need-loop-k-preserved invariant-loop-k decreases-loop-k invariant-loop-k-2 decreases-loop-k-2
 loop-again c =
     let l = c.before.before.before.before in
-    let a = l.before.before.args in
-    let block = c.before.block-is-zero.ensures c.if1.true in
-    zeros_block a.work.now a.from _ _ _ l.loop.invariant c.before.before.wide.ensures (omega arith) block
+    let a = l.args in
+    let block = c.block_is_zero.ensures c.if-block_is_zero.true in
+    zeros_block a.work.now a.from _ _ _ l.loop-k.invariant c.wide.ensures (omega arith) block
 
-loop2-holds : tie.Need-loop2-init invariant-loop decreases-loop invariant-loop2 decreases-loop2
-loop2-holds c = c.before.loop.invariant
+loop2-holds : tie.Need-loop-k-2-init invariant-loop-k decreases-loop-k invariant-loop-k-2 decreases-loop-k-2
+loop2-holds c = c.loop-k.invariant
 
-wide-requires-2 : tie.Need-wide-requires-2 invariant-loop decreases-loop invariant-loop2 decreases-loop2
-wide-requires-2 c κs = search rules
+wide-requires-in-loop-k-2 : tie.Need-wide-requires-in-loop-k-2 invariant-loop-k decreases-loop-k invariant-loop-k-2 decreases-loop-k-2
+wide-requires-in-loop-k-2 c κs = search rules
 
-add-if2 : tie.Need-overflow-add-if2 invariant-loop decreases-loop invariant-loop2 decreases-loop2
-add-if2 c = search rules
+overflow_add-from-in-loop-k-2 : tie.Need-overflow_add-from-in-loop-k-2 invariant-loop-k decreases-loop-k invariant-loop-k-2 decreases-loop-k-2
+overflow_add-from-in-loop-k-2 c = search rules
 
-mul-if2 : tie.Need-overflow-mul-if2 invariant-loop decreases-loop invariant-loop2 decreases-loop2
-mul-if2 c = search rules
+offset_bounds-work-from : tie.Need-offset_bounds-work-from invariant-loop-k decreases-loop-k invariant-loop-k-2 decreases-loop-k-2
+offset_bounds-work-from c = search rules
 
-shared-slice-read-if2 : tie.Need-shared-slice-read-if2 invariant-loop decreases-loop invariant-loop2 decreases-loop2
-shared-slice-read-if2 c = search rules
+bounds-work-from : tie.Need-bounds-work-from invariant-loop-k decreases-loop-k invariant-loop-k-2 decreases-loop-k-2
+bounds-work-from c = search rules
 
-returns : tie.Need-returns invariant-loop decreases-loop invariant-loop2 decreases-loop2
-returns c = c.before.before.before.before.loop2.invariant
+returns-then-work-from-ne0 : tie.Need-returns-then-work-from-ne0 invariant-loop-k decreases-loop-k invariant-loop-k-2 decreases-loop-k-2
+returns-then-work-from-ne0 c = c.loop-k-2.invariant
 
-add-k-2 : tie.Need-overflow-add-k-2 invariant-loop decreases-loop invariant-loop2 decreases-loop2
-add-k-2 c = search rules
+overflow_add-k-in-loop-k-2 : tie.Need-overflow_add-k-in-loop-k-2 invariant-loop-k decreases-loop-k invariant-loop-k-2 decreases-loop-k-2
+overflow_add-k-in-loop-k-2 c = search rules
 
-loop2-less : tie.Need-loop2-smaller invariant-loop decreases-loop invariant-loop2 decreases-loop2
+loop2-less : tie.Need-loop-k-2-smaller invariant-loop-k decreases-loop-k invariant-loop-k-2 decreases-loop-k-2
 loop2-less c = search rules
 
-loop2-again : tie.Need-loop2-preserved invariant-loop decreases-loop invariant-loop2 decreases-loop2
+loop2-again : tie.Need-loop-k-2-preserved invariant-loop-k decreases-loop-k invariant-loop-k-2 decreases-loop-k-2
 loop2-again c =
     let l = c.before.before.before.before in
-    let a = l.before.before.before.before.args in
-    zeros_more a.work.now a.from _ _ _ l.loop2.invariant c.before.before.wide2.ensures (omega arith) c.if2.false
+    let a = l.args in
+    zeros_more a.work.now a.from _ _ _ l.loop-k-2.invariant c.wide-in-loop-k-2.ensures (omega arith) c.if-work-from-ne0.false
 
-returns-2 : tie.Need-returns-2 invariant-loop decreases-loop invariant-loop2 decreases-loop2
-returns-2 c = c.before.loop2.invariant
+returns-2 : tie.Need-returns invariant-loop-k decreases-loop-k invariant-loop-k-2 decreases-loop-k-2
+returns-2 c = c.loop-k-2.invariant
 
 pub zeros_spec : {M : Type 1} → statement M
 zeros_spec =
     tie.close
     (tie.spec
-    invariant-loop
-    decreases-loop
-    invariant-loop2
-    decreases-loop2
+    invariant-loop-k
+    decreases-loop-k
+    invariant-loop-k-2
+    decreases-loop-k-2
     loop-holds
-    sub-loop
+    overflow_sub-most
     wide-requires
-    add-block-is-zero
-    block-is-zero-requires
-    add-k
+    overflow_add-from
+    block_is_zero-requires
+    overflow_add-k
     loop-less
     loop-again
     loop2-holds
-    wide-requires-2
-    add-if2
-    mul-if2
-    shared-slice-read-if2
-    returns
-    add-k-2
+    wide-requires-in-loop-k-2
+    overflow_add-from-in-loop-k-2
+    offset_bounds-work-from
+    bounds-work-from
+    returns-then-work-from-ne0
+    overflow_add-k-in-loop-k-2
     loop2-less
     loop2-again
     returns-2)

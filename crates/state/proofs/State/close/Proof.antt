@@ -11,108 +11,108 @@ use Rattle.state.proofs.State.close.Statement.{statement}
 use Rattle.state.proofs.State.close.Tie as tie
 
 -- the entry, seen from where the lent slices are known
-abbrev start : tie.After-slice-known3 → tie.Start
+abbrev start : tie.After-slice_known-3-1 → tie.Start
 start c = c.before.before.before
 
 -- the open target may be closed
-free-c : (c : tie.At-match-keys1) → let a = (start c.before).args in FreeIn (length a.c.now) (length a.y.now) (length a.x.now) a.self C
+free-c : (c : tie.In-1) → let a = (start c.before).args in FreeIn (length a.c.now) (length a.y.now) (length a.x.now) a.self C
 free-c c =
     let a = (start c.before).args in
-    free_in a.self a.c.now a.y.now a.x.now (ap table_of c.match.keys1) (start c.before).requires.1
+    free_in a.self a.c.now a.y.now a.x.now (ap table_of c.in-1.keys1) (start c.before).requires.1
 
-free-y : (c : tie.At-match-keys2) → (start c.before).args.self.y < length (start c.before).args.y.now
+free-y : (c : tie.In-2) → (start c.before).args.self.y < length (start c.before).args.y.now
 free-y c =
     let a = (start c.before).args in
-    free_in a.self a.c.now a.y.now a.x.now (ap table_of c.match.keys2) (start c.before).requires.1
+    free_in a.self a.c.now a.y.now a.x.now (ap table_of c.in-2.keys2) (start c.before).requires.1
 
-table-x : (c : tie.At-match-rest) → table_of (start c.before).args.self.table ≡ X
-table-x c = is_x _ c.match.rest.0.1 c.match.rest.1
+table-x : (c : tie.In_default) → table_of (start c.before).args.self.table ≡ X
+table-x c = is_x _ c.in_default.rest.0.1 c.in_default.rest.1
 
-free-x : (c : tie.At-match-rest) → let a = (start c.before).args in FreeIn (length a.c.now) (length a.y.now) (length a.x.now) a.self X
+free-x : (c : tie.In_default) → let a = (start c.before).args in FreeIn (length a.c.now) (length a.y.now) (length a.x.now) a.self X
 free-x c =
     let a = (start c.before).args in
     free_in a.self a.c.now a.y.now a.x.now (table-x c) (start c.before).requires.1
 
-wide-requires : tie.Need-wide-requires
-wide-requires c κs = search rules
+wide-at-requires : tie.Need-wide-at-requires
+wide-at-requires c κs = search rules
 
-sub_at : tie.Need-overflow-sub-at
-sub_at c = omega (arith, free-c c.before, c.wide.ensures)
+overflow_sub-at : tie.Need-overflow_sub-at
+overflow_sub-at c = omega (arith, free-c c.before, c.wide-at.ensures)
 
-mul-c : tie.Need-overflow-mul-c
-mul-c c = search rules
+offset_bounds-c-at : tie.Need-offset_bounds-c-at
+offset_bounds-c-at c = search rules
 
-slice-write-c : tie.Need-slice-write-c
-slice-write-c c = omega (arith, free-c c.before, c.wide.ensures)
+bounds-c-at : tie.Need-bounds-c-at
+bounds-c-at c = omega (arith, free-c c.before, c.wide-at.ensures)
 
-add-self : tie.Need-overflow-add-self
-add-self c = search rules
+overflow_add-self : tie.Need-overflow_add-self
+overflow_add-self c = search rules
 
-mul-y : tie.Need-overflow-mul-y
-mul-y c = search rules
+offset_bounds-y-at : tie.Need-offset_bounds-y-at
+offset_bounds-y-at c = search rules
 
-slice-write-y : tie.Need-slice-write-y
-slice-write-y c = free-y c
+bounds-y-at : tie.Need-bounds-y-at
+bounds-y-at c = free-y c
 
-add-self-2 : tie.Need-overflow-add-self-2
-add-self-2 c = search rules
+overflow_add-self-in-2 : tie.Need-overflow_add-self-in-2
+overflow_add-self-in-2 c = search rules
 
-add-closed : tie.Need-overflow-add-closed
-add-closed c = search rules
+overflow_add-closed : tie.Need-overflow_add-closed
+overflow_add-closed c = search rules
 
-sub-at-2 : tie.Need-overflow-sub-at-2
-sub-at-2 c = omega (arith, free-x c.before)
+overflow_sub-at-in_default : tie.Need-overflow_sub-at-in_default
+overflow_sub-at-in_default c = omega (arith, free-x c.before)
 
-mul-x : tie.Need-overflow-mul-x
-mul-x c = search rules
+offset_bounds-x-at : tie.Need-offset_bounds-x-at
+offset_bounds-x-at c = search rules
 
-slice-write-x : tie.Need-slice-write-x
-slice-write-x c = omega (arith, free-x c.before)
+bounds-x-at : tie.Need-bounds-x-at
+bounds-x-at c = omega (arith, free-x c.before)
 
-same_length : tie.Need-same-length
-same_length c = search rules
+shape_of-c-then-at-self : tie.Need-shape_of-c-then-at-self
+shape_of-c-then-at-self c = search rules
 
-returns : tie.Need-returns
-returns c =
+returns-then-at-self : tie.Need-returns-then-at-self
+returns-then-at-self c =
     let call = c.before.before in
     let s = start call.before.before in
     let a = s.args in
     let free = free-c call.before in (
-      close_c a.self a.c.now a.y.now a.x.now _ (call.wide.result - 1 + 1) (ap table_of call.before.match.keys1) free call.wide.ensures
-          (omega (arith, free, call.wide.ensures, c.if1.true)),
-      record { named = s.pre.0.named; in_c = omega (arith, free, call.wide.ensures); in_y = omega arith; in_x = omega arith },
+      close_c a.self a.c.now a.y.now a.x.now _ (call.wide-at.result - 1 + 1) (ap table_of call.in-1.keys1) free call.wide-at.ensures
+          (omega (arith, free, call.wide-at.ensures, c.if-at-self.true)),
+      record { named = s.pre.0.named; in_c = omega (arith, free, call.wide-at.ensures); in_y = omega arith; in_x = omega arith },
     )
 
-same-length-2 : tie.Need-same-length-2
-same-length-2 c = search rules
+shape_of-c-else-at-self : tie.Need-shape_of-c-else-at-self
+shape_of-c-else-at-self c = search rules
 
-returns-2 : tie.Need-returns-2
-returns-2 c =
+returns-else-at-self : tie.Need-returns-else-at-self
+returns-else-at-self c =
     let call = c.before.before in
     let s = start call.before.before in
     let a = s.args in
     let free = free-c call.before in (
-      close_c a.self a.c.now a.y.now a.x.now _ a.self.c (ap table_of call.before.match.keys1) free call.wide.ensures
-          (omega (arith, free, call.wide.ensures, c.if1.false)),
+      close_c a.self a.c.now a.y.now a.x.now _ a.self.c (ap table_of call.in-1.keys1) free call.wide-at.ensures
+          (omega (arith, free, call.wide-at.ensures, c.if-at-self.false)),
       s.pre.0,
     )
 
-same-length-3 : tie.Need-same-length-3
-same-length-3 c = search rules
+shape_of-y : tie.Need-shape_of-y
+shape_of-y c = search rules
 
-returns-3 : tie.Need-returns-3
-returns-3 c =
+returns-in-2 : tie.Need-returns-in-2
+returns-in-2 c =
     let s = start c.before in
     let a = s.args in (
-      close_y a.self a.c.now a.y.now a.x.now (ap table_of c.match.keys2) (free-y c),
+      close_y a.self a.c.now a.y.now a.x.now (ap table_of c.in-2.keys2) (free-y c),
       record { named = s.pre.0.named; in_c = omega arith; in_y = omega (arith, free-y c); in_x = omega arith },
     )
 
-same-length-4 : tie.Need-same-length-4
-same-length-4 c = search rules
+shape_of-x : tie.Need-shape_of-x
+shape_of-x c = search rules
 
-returns-4 : tie.Need-returns-4
-returns-4 c =
+returns-in_default : tie.Need-returns-in_default
+returns-in_default c =
     let s = start c.before.before in
     let a = s.args in
     let free = free-x c.before in (
@@ -124,23 +124,23 @@ pub close_spec : {M : Type 1} → statement M
 close_spec =
     tie.close
     (tie.spec
-    wide-requires
-    sub_at
-    mul-c
-    slice-write-c
-    add-self
-    mul-y
-    slice-write-y
-    add-self-2
-    add-closed
-    sub-at-2
-    mul-x
-    slice-write-x
-    same_length
-    returns
-    same-length-2
-    returns-2
-    same-length-3
-    returns-3
-    same-length-4
-    returns-4)
+    wide-at-requires
+    overflow_sub-at
+    offset_bounds-c-at
+    bounds-c-at
+    overflow_add-self
+    offset_bounds-y-at
+    bounds-y-at
+    overflow_add-self-in-2
+    overflow_add-closed
+    overflow_sub-at-in_default
+    offset_bounds-x-at
+    bounds-x-at
+    shape_of-c-then-at-self
+    returns-then-at-self
+    shape_of-c-else-at-self
+    returns-else-at-self
+    shape_of-y
+    returns-in-2
+    shape_of-x
+    returns-in_default)

@@ -22,61 +22,61 @@ moved-less : (z : State) {moves : Bool} → moves ≡ false → z ≡ settled z 
 moved-less z e = rw e (ap (moved_so z) (sym (or-false z.moved)))
 
 -- the entry, seen from where the row is compared
-abbrev entry : tie.After-moves-more → tie.Start
+abbrev entry : tie.After-moves_more → tie.Start
 entry c = c.before.before.before.before
 
 -- the sweep before's entry stands at the target's index
-moves : (c : tie.After-moves-more) → let a = (entry c).args in
+moves : (c : tie.After-moves_more) → let a = (entry c).args in
     c.moves_more.result ≡ moves_more a.limit (get_or a.x.now (a.self.target - 1) plus_zero) a.self.running
 moves c =
     let a = (entry c).args in
-    let wide = c.before.before.wide in
+    let wide = c.wide-at in
     let inside = get_or-within a.x.now (wide.result - 1) _ plus_zero (omega (arith, (entry c).requires, wide.ensures)) in
     c.moves_more.ensures ∙ ap (λ old. moves_more a.limit old a.self.running) (inside ∙ ap (λ k. get_or a.x.now (k - 1) plus_zero) wide.ensures)
 
-wide-requires : tie.Need-wide-requires
-wide-requires c κs = search rules
+wide-at-requires : tie.Need-wide-at-requires
+wide-at-requires c κs = search rules
 
-sub_at : tie.Need-overflow-sub-at
-sub_at c = search rules
+overflow_sub-at : tie.Need-overflow_sub-at
+overflow_sub-at c = search rules
 
-mul-moves-more : tie.Need-overflow-mul-moves-more
-mul-moves-more c = search rules
+offset_bounds-x-at : tie.Need-offset_bounds-x-at
+offset_bounds-x-at c = search rules
 
-slice-read-moves-more : tie.Need-slice-read-moves-more
-slice-read-moves-more c = search rules
+bounds-x-at : tie.Need-bounds-x-at
+bounds-x-at c = search rules
 
-moves-more-requires : tie.Need-moves-more-requires
-moves-more-requires c κs = search rules
+moves_more-requires : tie.Need-moves_more-requires
+moves_more-requires c κs = search rules
 
-mul-x : tie.Need-overflow-mul-x
-mul-x c = search rules
+offset_bounds-x-at-2 : tie.Need-offset_bounds-x-at-2
+offset_bounds-x-at-2 c = search rules
 
-slice-write-x : tie.Need-slice-write-x
-slice-write-x c = search rules
+bounds-x-at-2 : tie.Need-bounds-x-at-2
+bounds-x-at-2 c = search rules
 
-same_length : tie.Need-same-length
-same_length c = search rules
+shape_of-x : tie.Need-shape_of-x
+shape_of-x c = search rules
 
 returns : tie.Need-returns
 returns c =
     let call = c.before in
     let a = (entry call).args in (
       ⊎_elim (λ w. w.1 ∙ moved_more a.self (sym (moves call) ∙ w.0.taken))
-          (λ w. w.1 ∙ moved-less a.self (sym (moves call) ∙ w.0.left)) c.if1.branch,
-      ap (λ k. set a.x.now (k - 1) a.self.running) call.before.before.wide.ensures,
+          (λ w. w.1 ∙ moved-less a.self (sym (moves call) ∙ w.0.left)) c.if-moves_more.branch,
+      ap (λ k. set a.x.now (k - 1) a.self.running) call.wide-at.ensures,
     )
 
 pub settle_spec : {M : Type 1} → statement M
 settle_spec =
     tie.close
     (tie.spec
-    wide-requires
-    sub_at
-    mul-moves-more
-    slice-read-moves-more
-    moves-more-requires
-    mul-x
-    slice-write-x
-    same_length
+    wide-at-requires
+    overflow_sub-at
+    offset_bounds-x-at
+    bounds-x-at
+    moves_more-requires
+    offset_bounds-x-at-2
+    bounds-x-at-2
+    shape_of-x
     returns)

@@ -9,11 +9,11 @@ use Rattle.text.proofs.Steps.{step-between, step-gap, step_on}
 use Rattle.text.proofs.Reading.step.Statement.{statement}
 use Rattle.text.proofs.Reading.step.Tie as tie
 
-enum_told : tie.Need-enum-told
-enum_told c = search rules
+enum_told-1 : tie.Need-enum_told-1
+enum_told-1 c = search rules
 
-enum-told-2 : tie.Need-enum-told-2
-enum-told-2 c = search rules
+enum_told-in-Between : tie.Need-enum_told-in-Between
+enum_told-in-Between c = search rules
 
 onward-requires : tie.Need-onward-requires
 onward-requires c κs = search rules
@@ -21,52 +21,52 @@ onward-requires c κs = search rules
 begun-requires : tie.Need-begun-requires
 begun-requires c κs = search rules
 
-enum-known-stage : tie.Need-enum-known-stage
-enum-known-stage c = search rules
+enum_known-stage : tie.Need-enum_known-stage
+enum_known-stage c = search rules
 
-continued-requires : tie.Need-continued-requires
-continued-requires c κs = search rules
+continued-after-requires : tie.Need-continued-after-requires
+continued-after-requires c κs = search rules
 
-is-gap-requires : tie.Need-is-gap-requires
-is-gap-requires c κs = search rules
+is_gap-requires : tie.Need-is_gap-requires
+is_gap-requires c κs = search rules
 
-join-requires : tie.Need-join-requires
-join-requires c κs = search rules
+join-more-requires : tie.Need-join-more-requires
+join-more-requires c κs = search rules
 
-onward-requires-2 : tie.Need-onward-requires-2
-onward-requires-2 c κs = search rules
+onward-requires-then-is_gap : tie.Need-onward-requires-then-is_gap
+onward-requires-then-is_gap c κs = search rules
 
-same_length : tie.Need-same-length
-same_length c = search rules
+shape_of-numbers-then-is_gap : tie.Need-shape_of-numbers-then-is_gap
+shape_of-numbers-then-is_gap c = search rules
 
-returns : tie.Need-returns
-returns c =
+returns-then-is_gap : tie.Need-returns-then-is_gap
+returns-then-is_gap c =
     let w = c.before.before.before.before.before.before in (
-      step-gap _ _ _ c.onward2.ensures (ap stage_of w.before.before.before.stage.given.1) w.before.continued.ensures
-          (sym w.is-gap.ensures ∙ c.before.before.before.before.before.if1.true)
-          c.before.before.before.join.ensures.0,
-      c.before.before.before.join.ensures.1,
+      step-gap _ _ _ c.onward-then-is_gap.ensures (ap stage_of w.stage-1.given.1) w.continued-after.ensures
+          (sym w.is_gap.ensures ∙ c.if-is_gap.true)
+          c.join-more.ensures.0,
+      c.join-more.ensures.1,
     )
 
-onward-requires-3 : tie.Need-onward-requires-3
-onward-requires-3 c κs = search rules
+onward-requires-in-Within : tie.Need-onward-requires-in-Within
+onward-requires-in-Within c κs = search rules
 
-returns-2 : tie.Need-returns-2
-returns-2 c = (step-faulty _ _ _ (ap stage_of c.enum_told.given.1), kept_same _ _)
+returns-in-Faulty : tie.Need-returns-in-Faulty
+returns-in-Faulty c = (step-faulty _ _ _ (ap stage_of c.enum_told-1.given.1), kept_same _ _)
 
-returns-3 : tie.Need-returns-3
-returns-3 c =
-    let a = c.before.before.before.before.before.args in (
-      step-between _ _ _ c.before.onward.ensures (ap stage_of c.before.before.enum-told2.given.1)
+returns-in-Between : tie.Need-returns-in-Between
+returns-in-Between c =
+    let a = c.args in (
+      step-between _ _ _ c.onward.ensures (ap stage_of c.enum_told-in-Between-1.given.1)
           (c.begun.ensures ∙ ap (λ free. Text.begun free a.self.position a.byte) (room a.numbers.now a.self.count)),
       kept_same _ _,
     )
 
-returns-4 : tie.Need-returns-4
-returns-4 c =
+returns-else-is_gap : tie.Need-returns-else-is_gap
+returns-else-is_gap c =
     let w = c.before.before in (
-      step_on _ _ _ c.onward3.ensures (ap stage_of w.before.before.before.stage.given.1) w.before.continued.ensures
-          (sym w.is-gap.ensures ∙ c.before.if1.false),
+      step_on _ _ _ c.onward-in-Within.ensures (ap stage_of w.stage-1.given.1) w.continued-after.ensures
+          (sym w.is_gap.ensures ∙ c.if-is_gap.false),
       kept_same _ _,
     )
 
@@ -74,18 +74,18 @@ pub step_spec : {M : Type 1} → statement M
 step_spec =
     tie.close
     (tie.spec
-    enum_told
-    enum-told-2
+    enum_told-1
+    enum_told-in-Between
     onward-requires
     begun-requires
-    enum-known-stage
-    continued-requires
-    is-gap-requires
-    join-requires
-    onward-requires-2
-    same_length
-    returns
-    onward-requires-3
-    returns-2
-    returns-3
-    returns-4)
+    enum_known-stage
+    continued-after-requires
+    is_gap-requires
+    join-more-requires
+    onward-requires-then-is_gap
+    shape_of-numbers-then-is_gap
+    returns-then-is_gap
+    onward-requires-in-Within
+    returns-in-Faulty
+    returns-in-Between
+    returns-else-is_gap)

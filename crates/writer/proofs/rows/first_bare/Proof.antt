@@ -9,72 +9,72 @@ use Rattle.writer.proofs.Sweep.{Diagonal, diagonal_first, none_bare, diagonal_in
 use Rattle.writer.proofs.rows.first_bare.Statement.{statement}
 use Rattle.writer.proofs.rows.first_bare.Tie as tie
 
-abbrev invariant-loop : tie.invariant-loop
-invariant-loop n work at₀ r₀ at r = Diagonal n work r at
+abbrev invariant-loop-r : tie.invariant-loop-r
+invariant-loop-r n work at₀ r₀ at r = Diagonal n work r at
 
-abbrev decreases-loop : tie.decreases-loop
-decreases-loop n work at₀ r₀ at r = suc n - r
+abbrev decreases-loop-r : tie.decreases-loop-r
+decreases-loop-r n work at₀ r₀ at r = suc n - r
 
-covers : (c : tie.At-loop invariant-loop decreases-loop) → let a = c.before.before.args in Covers a.n a.work.now
-covers c = c.before.before.requires
+covers : (c : tie.At-loop-r invariant-loop-r decreases-loop-r) → let a = c.args in Covers a.n a.work.now
+covers c = c.requires
 
-inside : (c : tie.In-loop invariant-loop decreases-loop) → let at = c.before.loop.at in (at < 360000) × (at < length c.before.before.before.args.work.now)
-inside c = diagonal_inside c.before.loop.invariant (covers c.before) c.loop-test.true
+inside : (c : tie.In-loop-r invariant-loop-r decreases-loop-r) → let at = c.loop-r.at in (at < 360000) × (at < length c.args.work.now)
+inside c = diagonal_inside c.loop-r.invariant (covers c.before) c.loop-r-test.true
 
-loop-holds : tie.Need-loop-init invariant-loop decreases-loop
+loop-holds : tie.Need-loop-r-init invariant-loop-r decreases-loop-r
 loop-holds c = diagonal_first
 
-mul-if1 : tie.Need-overflow-mul-if1 invariant-loop decreases-loop
-mul-if1 c = omega (arith, inside c)
+offset_bounds-work-at : tie.Need-offset_bounds-work-at invariant-loop-r decreases-loop-r
+offset_bounds-work-at c = omega (arith, inside c)
 
-shared-slice-read-if1 : tie.Need-shared-slice-read-if1 invariant-loop decreases-loop
-shared-slice-read-if1 c = (inside c.before).1
+bounds-work-at : tie.Need-bounds-work-at invariant-loop-r decreases-loop-r
+bounds-work-at c = (inside c.before).1
 
-returns : tie.Need-returns invariant-loop decreases-loop
-returns c = let t = c.before.before in bare-here t.before.loop.invariant (covers t.before) t.loop-test.true c.if1.true
+returns-then-work-at-eq0 : tie.Need-returns-then-work-at-eq0 invariant-loop-r decreases-loop-r
+returns-then-work-at-eq0 c = let t = c.before.before in bare-here t.loop-r.invariant (covers t.before) t.loop-r-test.true c.if-work-at-eq0.true
 
-wide-requires : tie.Need-wide-requires invariant-loop decreases-loop
+wide-requires : tie.Need-wide-requires invariant-loop-r decreases-loop-r
 wide-requires c κs = search rules
 
-mul_at : tie.Need-overflow-mul-at invariant-loop decreases-loop
-mul_at c = search rules
+overflow_mul-at : tie.Need-overflow_mul-at invariant-loop-r decreases-loop-r
+overflow_mul-at c = search rules
 
-add_at : tie.Need-overflow-add-at invariant-loop decreases-loop
-add_at c = search rules
+overflow_add-at : tie.Need-overflow_add-at invariant-loop-r decreases-loop-r
+overflow_add-at c = search rules
 
-add-at-2 : tie.Need-overflow-add-at-2 invariant-loop decreases-loop
-add-at-2 c = omega (arith, inside c.before.before.before, c.wide.ensures)
+overflow_add-at-in-loop-r : tie.Need-overflow_add-at-in-loop-r invariant-loop-r decreases-loop-r
+overflow_add-at-in-loop-r c = omega (arith, inside c.before.before.before, c.wide.ensures)
 
-add_r : tie.Need-overflow-add-r invariant-loop decreases-loop
-add_r c = search rules
+overflow_add-r : tie.Need-overflow_add-r invariant-loop-r decreases-loop-r
+overflow_add-r c = search rules
 
-loop-less : tie.Need-loop-smaller invariant-loop decreases-loop
+loop-less : tie.Need-loop-r-smaller invariant-loop-r decreases-loop-r
 loop-less c = omega arith
 
-loop-again : tie.Need-loop-preserved invariant-loop decreases-loop
+loop-again : tie.Need-loop-r-preserved invariant-loop-r decreases-loop-r
 loop-again c =
     let t = c.before.before.before in
-    diagonal_next t.before.loop.invariant (covers t.before) t.loop-test.true c.before.if1.false
-    (ap (λ s. t.before.loop.at + (2 * s + 1)) c.wide.ensures)
+    diagonal_next t.loop-r.invariant (covers t.before) t.loop-r-test.true c.if-work-at-eq0.false
+    (ap (λ s. t.loop-r.at + (2 * s + 1)) c.wide.ensures)
 
-returns-2 : tie.Need-returns-2 invariant-loop decreases-loop
-returns-2 c = none_bare c.before.loop.invariant c.loop-test.false
+returns-2 : tie.Need-returns invariant-loop-r decreases-loop-r
+returns-2 c = none_bare c.loop-r.invariant c.loop-r-test.false
 
-pub first-bare_spec : {M : Type 1} → statement M
-first-bare_spec =
+pub first_bare_spec : {M : Type 1} → statement M
+first_bare_spec =
     tie.close
     (tie.spec
-    invariant-loop
-    decreases-loop
+    invariant-loop-r
+    decreases-loop-r
     loop-holds
-    mul-if1
-    shared-slice-read-if1
-    returns
+    offset_bounds-work-at
+    bounds-work-at
+    returns-then-work-at-eq0
     wide-requires
-    mul_at
-    add_at
-    add-at-2
-    add_r
+    overflow_mul-at
+    overflow_add-at
+    overflow_add-at-in-loop-r
+    overflow_add-r
     loop-less
     loop-again
     returns-2)

@@ -9,73 +9,73 @@ use Rattle.writer.proofs.Written.{lent_room, lent_back, wrote_length}
 use Rattle.writer.proofs.rows.write_each_row.Statement.{statement}
 use Rattle.writer.proofs.rows.write_each_row.Tie as tie
 
-abbrev invariant-loop : tie.invariant-loop
-invariant-loop n work words₀ next₀ r₀ words next r = Rising (row_at n work) 1 0 1 (suc n) words₀ next r words
+abbrev invariant-loop-r : tie.invariant-loop-r
+invariant-loop-r n work words₀ next₀ r₀ words next r = Rising (row_at n work) 1 0 1 (suc n) words₀ next r words
 
-abbrev decreases-loop : tie.decreases-loop
-decreases-loop n work words₀ next₀ r₀ words next r = suc n - r
+abbrev decreases-loop-r : tie.decreases-loop-r
+decreases-loop-r n work words₀ next₀ r₀ words next r = suc n - r
 
-loop-holds : tie.Need-loop-init invariant-loop decreases-loop
-loop-holds c = rising_starts c.before.before.requires.1
+loop-holds : tie.Need-loop-r-init invariant-loop-r decreases-loop-r
+loop-holds c = rising_starts c.requires.1
 
-wide-requires : tie.Need-wide-requires invariant-loop decreases-loop
-wide-requires c κs = search rules
+wide-start-requires : tie.Need-wide-start-requires invariant-loop-r decreases-loop-r
+wide-start-requires c κs = search rules
 
-mul-start : tie.Need-overflow-mul-start invariant-loop decreases-loop
-mul-start c = search rules
+overflow_mul-start : tie.Need-overflow_mul-start invariant-loop-r decreases-loop-r
+overflow_mul-start c = search rules
 
-mul-write-row : tie.Need-overflow-mul-write-row invariant-loop decreases-loop
-mul-write-row c = search rules
+offset_bounds-words-start : tie.Need-offset_bounds-words-start invariant-loop-r decreases-loop-r
+offset_bounds-words-start c = search rules
 
-sub-write-row : tie.Need-overflow-sub-write-row invariant-loop decreases-loop
-sub-write-row c = search rules
+slice_bounds-write_row-count : tie.Need-slice_bounds-write_row-count invariant-loop-r decreases-loop-r
+slice_bounds-write_row-count c = search rules
 
-part-write-row-start : tie.Need-slice-bounds-write-row-start invariant-loop decreases-loop
-part-write-row-start c = search rules
+slice_bounds-write_row-start : tie.Need-slice_bounds-write_row-start invariant-loop-r decreases-loop-r
+slice_bounds-write_row-start c = search rules
 
-part-write-row-end : tie.Need-slice-bounds-write-row-end invariant-loop decreases-loop
-part-write-row-end c = search rules
+slice_bounds-write_row-end : tie.Need-slice_bounds-write_row-end invariant-loop-r decreases-loop-r
+slice_bounds-write_row-end c = search rules
 
-write-row-requires : tie.Need-write-row-requires invariant-loop decreases-loop
-write-row-requires c κs =
+write_row-next-requires : tie.Need-write_row-next-requires invariant-loop-r decreases-loop-r
+write_row-next-requires c κs =
     let t = c.before.before in
-    let room = rising-room t.before.loop.invariant (omega arith) in
-    (t.before.before.before.before.requires.0, (omega arith, lent_room (ap (◌*◌ 4) c.before.wide.ensures) room))
+    let room = rising-room t.loop-r.invariant (omega arith) in
+    (t.requires.0, (omega arith, lent_room (ap (◌*◌ 4) c.wide-start.ensures) room))
 
-add_r : tie.Need-overflow-add-r invariant-loop decreases-loop
-add_r c = omega arith
+overflow_add-r : tie.Need-overflow_add-r invariant-loop-r decreases-loop-r
+overflow_add-r c = omega arith
 
-loop-less : tie.Need-loop-smaller invariant-loop decreases-loop
+loop-less : tie.Need-loop-r-smaller invariant-loop-r decreases-loop-r
 loop-less c = omega arith
 
-loop-again : tie.Need-loop-preserved invariant-loop decreases-loop
+loop-again : tie.Need-loop-r-preserved invariant-loop-r decreases-loop-r
 loop-again c =
     let w = c.before.before.before.before in
     let t = w.before in
-    rising-more t.before.loop.invariant (omega arith) (lent_back (ap (◌*◌ 4) w.wide.ensures) c.before.before.write-row.ensures)
+    rising-more t.loop-r.invariant (omega arith) (lent_back (ap (◌*◌ 4) w.wide-start.ensures) c.write_row-next.ensures)
 
-returns : tie.Need-returns invariant-loop decreases-loop
-returns c = rising-ends c.before.loop.invariant (omega arith)
+returns : tie.Need-returns invariant-loop-r decreases-loop-r
+returns c = rising-ends c.loop-r.invariant (omega arith)
 
-same_length : tie.Need-same-length invariant-loop decreases-loop
-same_length c = wrote_length c.before.before.before.before.requires.1 (returns c)
+shape_of-words : tie.Need-shape_of-words invariant-loop-r decreases-loop-r
+shape_of-words c = wrote_length c.requires.1 (returns c)
 
-pub write_each-row_spec : {M : Type 1} → statement M
-write_each-row_spec =
+pub write_each_row_spec : {M : Type 1} → statement M
+write_each_row_spec =
     tie.close
     (tie.spec
-    invariant-loop
-    decreases-loop
+    invariant-loop-r
+    decreases-loop-r
     loop-holds
-    wide-requires
-    mul-start
-    mul-write-row
-    sub-write-row
-    part-write-row-start
-    part-write-row-end
-    write-row-requires
-    add_r
+    wide-start-requires
+    overflow_mul-start
+    offset_bounds-words-start
+    slice_bounds-write_row-count
+    slice_bounds-write_row-start
+    slice_bounds-write_row-end
+    write_row-next-requires
+    overflow_add-r
     loop-less
     loop-again
-    same_length
+    shape_of-words
     returns)

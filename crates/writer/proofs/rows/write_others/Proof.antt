@@ -6,32 +6,32 @@ use Rattle.writer.proofs.rows.write_others.Statement.{statement}
 use Rattle.writer.proofs.rows.write_others.Tie as tie
 
 -- Places of the code: where the left part is written, seen from the right one, and the entry.
-abbrev entry : tie.After-write-left → tie.Start
+abbrev entry : tie.After-write_left-left → tie.Start
 entry c = c.before.before.before.before
 
-abbrev left : tie.After-write-right-of-arg → tie.After-write-left
+abbrev left : tie.After-write_right_of-arg-1 → tie.After-write_left-left
 left c = c.before.before.before
 
-write-left-requires : tie.Need-write-left-requires
-write-left-requires c κs =
-    let p = c.before.before.before.requires in
+write_left-left-requires : tie.Need-write_left-left-requires
+write_left-left-requires c κs =
+    let p = c.requires in
     (p.0, (p.1.0, ((λ h low below both. absurd (omega arith)), room-front _ p.1.1)))
 
-write-right-of-requires : tie.Need-write-right-of-requires
-write-right-of-requires c κs =
+write_right_of-requires : tie.Need-write_right_of-requires
+write_right_of-requires c κs =
     let l = left c in
     let p = (entry l).pre in
-    (p.0, (p.1.0, room_back p.1.1 l.write-left.ensures))
+    (p.0, (p.1.0, room_back p.1.1 l.write_left-left.ensures))
 
-same_length : tie.Need-same-length
-same_length c = search rules
+shape_of-rest : tie.Need-shape_of-rest
+shape_of-rest c = search rules
 
 returns : tie.Need-returns
 returns c =
     let right = c.before.before in
     let l = left right.before in
-    wrote_more (entry l).pre.1.1 l.write-left.ensures right.write-right-of.ensures
+    wrote_more (entry l).pre.1.1 l.write_left-left.ensures right.write_right_of.ensures
 
 pub write_others_spec : {M : Type 1} → statement M
 write_others_spec =
-    tie.close (tie.spec write-left-requires write-right-of-requires same_length returns)
+    tie.close (tie.spec write_left-left-requires write_right_of-requires shape_of-rest returns)

@@ -10,16 +10,16 @@ use Rattle.writer.proofs.rows.write_rows.Tie as tie
 abbrev entry : tie.After-head → tie.Start
 entry c = c.before.before.before.before.before
 
-abbrev headed : tie.After-write-each-row → tie.After-head
+abbrev headed : tie.After-write_each_row-end → tie.After-head
 headed c = c.before.before.before.before
 
 head-requires : tie.Need-head-requires
 head-requires c κs =
-    let counted = rows-counted c.before.before.before.before.requires in
+    let counted = rows-counted c.requires in
     (counted.short, omega (arith, counted))
 
-write-each-row-requires : tie.Need-write-each-row-requires
-write-each-row-requires c κs =
+write_each_row-end-requires : tie.Need-write_each_row-end-requires
+write_each_row-end-requires c κs =
     let h = c.before.before.before in
     let p = (entry h).requires in
     (rows_cover p, headed_room _ _ (rows-counted p) h.head.ensures)
@@ -28,10 +28,10 @@ finish-requires : tie.Need-finish-requires
 finish-requires c κs =
     let w = c.before.before.before in
     let h = headed w in
-    last_inside _ _ (rows-counted (entry h).pre) h.head.ensures w.write-each-row.ensures
+    last_inside _ _ (rows-counted (entry h).pre) h.head.ensures w.write_each_row-end.ensures
 
-same_length : tie.Need-same-length
-same_length c = search rules
+shape_of-words : tie.Need-shape_of-words
+shape_of-words c = search rules
 
 returns : tie.Need-returns
 returns c =
@@ -39,9 +39,9 @@ returns c =
     let w = f.before.before.before.before in
     let h = headed w in
     let p = (entry h).pre in
-    sweep_written p (program-written _ _ (rows-counted p) h.head.ensures w.write-each-row.ensures f.finish.ensures)
+    sweep_written p (program-written _ _ (rows-counted p) h.head.ensures w.write_each_row-end.ensures f.finish.ensures)
 
 pub write_rows_spec : {M : Type 1} → statement M
 write_rows_spec =
     tie.close
-    (tie.spec head-requires write-each-row-requires finish-requires same_length returns)
+    (tie.spec head-requires write_each_row-end-requires finish-requires shape_of-words returns)
