@@ -1,10 +1,11 @@
 // The listing program: reads N and the labels of a plan, and prints the records of its program, or a refusal. Document 01, "Listing program".
 #![tactic(auto)]
+
 ghost use Rattle.std.specs.Prelude.{◌+◌, ◌*◌, ◌≤◌, ◌<◌, length};
 
 use compiler::Compilation;
-use libc::{STDIN_FILENO, STDOUT_FILENO};
 use numbers::wide;
+use std::io::Read;
 use text::{Reading, Scanned};
 
 // A reading, and whether more of the input may change it.
@@ -14,20 +15,20 @@ struct Fed {
     more: bool,
 }
 
-fn main() {
+fn main(rt: HostRuntime) {
     let mut numbers = [0u32; 4097];
-    let reading = read_all(&mut numbers);
+    let reading = read_all(&mut rt.stdin(), &mut numbers);
     match reading.ended(&mut numbers) {
-        Scanned::BadAt(at) => print_refusal(20, at),
+        Scanned::BadAt(at) => print_refusal(&rt, 20, at),
         Scanned::Numbers { order, labels } => {
             let end = labels + 1;
-            list(order, &numbers[1..end]);
+            list(&rt, order, &numbers[1..end]);
         }
     }
 }
 
 // Reads the input to its end, or to its first fault. A proved loop has to end, so it counts its turns down, from a number that no run uses up.
-fn read_all(numbers: &mut [u32]) -> Reading {
+fn read_all(input: &mut impl Read, numbers: &mut [u32]) -> Reading {
     let mut fed = Fed {
         reading: text::blank(),
         more: true,
@@ -35,17 +36,16 @@ fn read_all(numbers: &mut [u32]) -> Reading {
     let mut turns = u64::MAX;
     while turns > 0 && fed.more {
         let reading = fed.reading;
-        fed = read_piece(reading, numbers);
+        fed = read_piece(input, reading, numbers);
         turns -= 1;
     }
     fed.reading
 }
 
 // Reads a piece of the input. Nothing follows where nothing was read, at the end of the input or where a read fails, and after a fault.
-fn read_piece(reading: Reading, numbers: &mut [u32]) -> Fed {
-    let mut piece = io::buffer();
-    let got = libc::read(STDIN_FILENO, &mut piece);
-    let n = io::count(got, &piece);
+fn read_piece(input: &mut impl Read, reading: Reading, numbers: &mut [u32]) -> Fed {
+    let mut piece = [0u8; 4096];
+    let n = input.read(&mut piece).unwrap_or(0);
     let after = text::feed(reading, &piece[..n], numbers);
     Fed {
         reading: after,
@@ -54,31 +54,31 @@ fn read_piece(reading: Reading, numbers: &mut [u32]) -> Fed {
 }
 
 // Compiles a plan, and prints its program or the refusal.
-fn list(order: u32, plan: &[u32]) {
+fn list(rt: &impl Print, order: u32, plan: &[u32]) {
     let mut work = [0u32; 16384];
     let mut words = [0u32; 16384];
     match compiler::compile(order, plan, &mut work, &mut words) {
-        Compilation::Refused { number, detail } => print_refusal(number, detail),
+        Compilation::Refused { number, detail } => print_refusal(rt, number, detail),
         Compilation::Written {
             slots: _,
             products: _,
             records,
-        } => print_program(&words, records),
+        } => print_program(rt, &words, records),
     }
 }
 
 // Prints each record of a program.
-fn print_program(words: &[u32], records: u32)
+fn print_program(rt: &impl Print, words: &[u32], records: u32)
     requires { 4 * records ≤ length words.now }
 {
     let mut k = 0;
     while k < records {
-        print_record(k, words);
+        print_record(rt, k, words);
         k += 1;
     }
 }
 
-fn print_record(k: u32, words: &[u32])
+fn print_record(rt: &impl Print, k: u32, words: &[u32])
     requires { 4 * k + 3 < length words.now }
 {
     let at = 4 * wide(k);
@@ -91,11 +91,11 @@ fn print_record(k: u32, words: &[u32])
         words[at + 3],
         &mut line,
     );
-    io::write_all(STDOUT_FILENO, &line[..size]);
+    let _ = rt.write_all(&line[..size]);
 }
 
-fn print_refusal(number: u32, detail: u64) {
+fn print_refusal(rt: &impl Print, number: u32, detail: u64) {
     let mut line = [0u8; 64];
     let size = output::refusal_line(number, detail, &mut line);
-    io::write_all(STDOUT_FILENO, &line[..size]);
+    let _ = rt.write_all(&line[..size]);
 }
