@@ -16,7 +16,7 @@ place_in-place-requires c κs = search rules
 
 returns : tie.Need-returns
 returns c =
-    let found = c.IsPlace-in.ensures in
+    let found = c.place_in-place.ensures in
     ap at (sym (place_of_label _ _ _ found.0) ∙ ap (place _) found.1)
 
 pub place_within_spec : {M : Type 1} → statement M
