@@ -1,6 +1,7 @@
 // What the listing program prints: a line at the start of a buffer, numbers in decimal digits, each with the byte after it. Document 01,
 // "Listing program".
 #![tactic(auto)]
+
 ghost use Rattle.std.specs.Prelude.{◌≡◌, ◌++◌, ◌+◌, ◌≤◌, ◌<◌, length, drop};
 ghost use Rattle.model.specs.Text.{decimal, entry, record_line, refusal_line, refused};
 ghost use Rattle.output.specs.Lines.{Put, Counts};

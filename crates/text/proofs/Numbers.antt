@@ -13,7 +13,7 @@ use Rattle.model.specs.Text.{joining, named, scanned, bad_at}
 use Rattle.model.proofs.Lists.{drop-later}
 use Rattle.text.specs.declared.Scanned.{Scanned}
 use Rattle.text.specs.declared.Scanned.TheVariants.{Numbers, BadAt}
-use Rattle.text.specs.Readings.{Kept, Untouched, Counted, Standing}
+use Rattle.text.specs.Readings.{Kept, Untouched, Counted}
 
 -- there is room for a number where the count is below the slice's length
 pub room : (xs : List ℕ) (k : ℕ) → ltb k (length xs) ≡ ltb (length (take k xs)) (length xs)
@@ -71,14 +71,6 @@ kept_more {a} {b} {c} {xs} {ys} {zs} p q =
     record { grown = omega (arith, p.grown, q.grown); rest = q.rest ∙ drop-later ys xs b c q.grown p.rest }
 
 -- the end of the input
-pub standing : (r : Scanned) (k size : ℕ) → Counted r k size → Standing r size
-standing (Numbers order labels) k size e = omega arith
-standing (BadAt at) k size e = tt
-
-pub untouched_same : (r : Scanned) (xs : List ℕ) → Untouched r xs xs
-untouched_same (Numbers order labels) xs = refl
-untouched_same (BadAt at) xs = refl
-
 module _ {k m : ℕ} {xs ys : List ℕ} (p : Kept k m xs ys) (size : length ys ≡ length xs) where
   -- as many as stand in the slice
   least_kept : (n : ℕ) → n ≡ min m (length ys) → drop n ys ≡ drop n xs

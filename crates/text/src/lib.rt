@@ -1,5 +1,6 @@
 // What the listing program reads, without the reading itself: bytes to numbers. Document 01, "Listing program".
 #![tactic(auto)]
+
 ghost use Rattle.std.specs.Prelude.{◌≡◌, true, List, ℕ, ◌-◌, ◌≤◌, length, take};
 ghost use Rattle.model.specs.Text.{fed, joining};
 ghost use Rattle.model.specs.Text as Text;

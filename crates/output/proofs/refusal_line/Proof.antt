@@ -11,15 +11,15 @@ put_refused-first-requires : tie.Need-put_refused-first-requires
 put_refused-first-requires c κs = search rules
 
 -- the place that is reached after the word and after the number, and the buffer then
-after-word : (c : tie.After-put_refused-first) → Room 8 c.Put-refused.result c.Put-refused.new.0
-after-word c = record { below = omega (arith, c.Put-refused.ensures.place); size = omega (arith, c.Put-refused.auto.0) }
+after-word : (c : tie.After-put_refused-first) → Room 8 c.put_refused-first.result c.put_refused-first.new.out
+after-word c = record { below = omega (arith, c.put_refused-first.ensures.place); size = omega (arith, c.put_refused-first.auto.out) }
 
-after-number : (c : tie.After-put_entry-second) → Room 19 c.put_entry-second.result c.put_entry-second.new.1.1.1.0
+after-number : (c : tie.After-put_entry-second) → Room 19 c.put_entry-second.result c.put_entry-second.new.out
 after-number c =
     let word = c.before.before.before.before in
     let s = word.before.before.before in
     let few = decimal-short _ s.ranges.number.fits in
-    room_after (after-word word) s.args.number few 32 c.put_entry-second.ensures c.put_entry-second.auto.1.1.1.0
+    room_after (after-word word) s.args.number few 32 c.put_entry-second.ensures c.put_entry-second.auto.out
 
 put_entry-second-requires : tie.Need-put_entry-second-requires
 put_entry-second-requires c κs =
@@ -40,8 +40,8 @@ returns c =
     let word = number.before.before.before.before in
     let s = word.before.before.before in
     let few = decimal-long _ s.ranges.detail.fits in
-    let end = room_after (after-number number) s.args.detail few 10 c.put_entry.ensures c.put_entry.auto.1.1.1.0 in
-    put-line (put_more word.Put-refused.ensures (put_more number.put_entry-second.ensures c.put_entry.ensures)) end (omega arith)
+    let end = room_after (after-number number) s.args.detail few 10 c.put_entry.ensures c.put_entry.auto.out in
+    put-line (put_more word.put_refused-first.ensures (put_more number.put_entry-second.ensures c.put_entry.ensures)) end (omega arith)
 
 pub refusal_line_spec : {M : Type 1} → statement M
 refusal_line_spec =
