@@ -1,5 +1,6 @@
 // The listing program: reads N and the labels of a plan, and prints the records of its program, or a refusal. Document 01, "Listing program".
 #![tactic(auto)]
+
 ghost use Rattle.std.specs.Prelude.{◌+◌, ◌*◌, ◌≤◌, ◌<◌, length};
 
 use compiler::Compilation;
