@@ -1,5 +1,4 @@
 -- `labels::place_within` finds the batch of a label, and the place there.
-use native.Mathlib.Omega.{arith}
 use mathlib.Core.Path.{sym, ap, ◌∙◌}
 use borrow.Author.Rules.{rules}
 use Rattle.model.specs.Label.{place, at}
