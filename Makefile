@@ -4,12 +4,12 @@
 # make handbook  docs/HANDBOOK.md, counted anew
 # make test      the gate
 # make bench     the exported functions beside plain Rust
-# make clean     removes build/; target/ belongs to rt
+# make clean     removes build/; crates/*/out/ belongs to rt
 #
 # Wanted: rt, gcc, and for test and bench cargo. Nothing is installed, and nothing outside this folder is written.
 
-LIBRARY = target/staticlib/libcapi.a
-PROVED = crates.txt $(shell find crates -type f)
+LIBRARY = crates/capi/out/libcapi.a
+PROVED = crates.txt $(shell find crates -type f -not -path "*/out/*")
 
 CC = gcc
 CFLAGS = -std=c11 -O2 -Wall -Wextra -Werror -pedantic
@@ -65,7 +65,7 @@ build/%.o: examples/%.c $(HEADERS) Makefile
 	$(CC) $(CFLAGS) -Iinclude -c $< -o $@
 
 $(LIBRARY): $(PROVED)
-	rt staticlib capi
+	cd crates/capi && rt lib
 
 clean:
 	rm -rf build

@@ -1,10 +1,10 @@
 #!/usr/bin/env bash
-# The examples and what the header itself defines, against target/staticlib/libcapi.a, by gcc and g++. The first difference ends it
+# The examples and what the header itself defines, against crates/capi/out/libcapi.a, by gcc and g++. The first difference ends it
 # with a message and status 1.
 set -euo pipefail
 cd "$(dirname "$0")/.."
 
-library=target/staticlib/libcapi.a
+library=crates/capi/out/libcapi.a
 strict=(-O2 -Wall -Wextra -Werror -pedantic -Iinclude)
 at=build/test
 
@@ -40,7 +40,7 @@ broken() {
 for tool in gcc g++; do
     command -v $tool >/dev/null || fail "there is no $tool"
 done
-[ -e $library ] || fail "there is no $library: rt staticlib capi"
+[ -e $library ] || fail "there is no $library: run rt lib in crates/capi"
 rm -rf $at
 mkdir -p $at
 

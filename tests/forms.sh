@@ -127,7 +127,7 @@ called=$(tokens tests/c/calls.c)
 sheet=$(tokens examples/sheet.c examples/plan_text.c)
 rust=$(tokens tests/src/calls/labels.rs tests/src/calls/file.rs)
 exported() {
-    want "$1 exported" "$capi" " # \[ no_mangle \] pub extern \"C\" fn $1 \( $2 \{"
+    want "$1 exported" "$capi" " # \[ unsafe \( no_mangle \) \] pub extern \"C\" fn $1 \( $2 \{"
     want "$1 in the header" "$header" " $3 $1 \( $4 \) ;"
     want "$1 in tests/c/calls.c" "$called" " $1 \( "
     want "$1 in the worked caller" "$sheet" " $1 \( "

@@ -1,10 +1,10 @@
 #!/usr/bin/env bash
-# The listing program on stored inputs: what it writes is the stored output, byte for byte. `rt check listing` builds the program.
+# The listing program on stored inputs: what it writes is the stored output, byte for byte. `rt run` in crates/listing builds the program.
 set -euo pipefail
 cd "$(dirname "$0")/.."
 
-program=target/bin/listing
-[ -x "$program" ] || { echo "tests/listing.sh: no $program; run 'rt check listing' first" >&2; exit 1; }
+program=crates/listing/out/listing
+[ -x "$program" ] || { echo "tests/listing.sh: no $program; run rt run in crates/listing first" >&2; exit 1; }
 
 count=0
 for input in tests/listing/*.in; do

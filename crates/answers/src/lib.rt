@@ -1,5 +1,6 @@
 // Answers as numbers: a refusal and its detail as one, and three or four further numbers in a lent array.
 #![tactic(auto)]
+
 ghost use Rattle.std.specs.Prelude.{◌≡◌, ◌<◌, ◌^◌};
 ghost use Rattle.model.specs.Boundary.{refusal_number, verdict_number, compiled_number, compiled_numbers, filed_number, filed_numbers};
 ghost use Rattle.model.specs.Boundary.{reply_number, reply_numbers, limit_numbers, traced_numbers, costs_number, renumbering_number, renumbering_numbers};

@@ -27,6 +27,8 @@ Clean x = clean x ≡ x
 
 value-clean : (x : Float) (s : Bool) (a c : ℕ) → HasValue x s a c → 0 < a → Clean x
 unfolding clean
+value-clean nan s a c v h = elim v [ ]
+value-clean (inf t) s a c v h = elim v [ ]
 value-clean (fin t zero e) s a c v h = absurd (omega (arith, v.1, mul-pos h (down_pos e)))
 value-clean (fin t (suc m) e) s a c v h = refl
 

@@ -1,6 +1,7 @@
 // One float operation, and how a value is read: document 01, "Dense Crout" and "Running"; document 02, A.1, A.5 and A.7.
 // Each result is compared with the definition's bit for bit.
 #![tactic(auto)]
+
 ghost use Rattle.std.specs.Prelude.{◌≡◌, false, cond, ◌&&◌};
 ghost use Rattle.model.specs.Arith as model;
 ghost use Rattle.model.specs.Formula as formula;

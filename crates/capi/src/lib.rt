@@ -1,5 +1,6 @@
 // The functions exported for C: document 01, "The C boundary"; document 02, A.1, A.2, A.4, A.6, A.7 and A.10 to A.14. The header is include/crout.h.
 #![tactic(auto)]
+
 ghost use Rattle.std.specs.Prelude.{◌≡◌, length};
 ghost use Rattle.model.specs.Arith.{plus_zero};
 ghost use Rattle.model.specs.Compile.{compact, sweep, compiles, work_after, compiles_by, work_after_by, words_after_by};

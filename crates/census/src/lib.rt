@@ -1,5 +1,6 @@
 // How many plans of an order are accepted, and how many are refused for each missing pivot. Document 02, A.13.
 #![tactic(auto)]
+
 ghost use Rattle.std.specs.Prelude.{true, ◌≡◌, ◌*◌, ◌^◌, ◌≤◌, length, replicate};
 ghost use Rattle.model.specs.Lists.{rising};
 ghost use Rattle.model.specs.Label.{within};

@@ -1,6 +1,7 @@
 // A program's words, or a file's bytes, against checks 7 to 13: document 01, "Where each refusal is checked"; document 02, A.6, A.7
 // and A.11. One pass, no memory.
 #![tactic(auto)]
+
 ghost use Rattle.std.specs.Prelude.{◌≡◌, ◌&&◌, ◌+◌, ◌*◌, ◌≤◌, ◌<◌, ltb, length};
 ghost use Rattle.model.specs.Check.{word, whole, at_end};
 ghost use Rattle.model.specs.Check.{check_from};

@@ -1,5 +1,6 @@
 // The program file: words as bytes, four each, low byte first, and back. Document 01, checks 18 and 19 and the writer's 7.
 #![tactic(auto)]
+
 ghost use Rattle.std.specs.Prelude.{◌≡◌, ◌++◌, ◌+◌, ◌*◌, ◌/◌, ◌%◌, ◌≤◌, length, drop};
 ghost use Rattle.model.specs.File.{bytes_of, words_of, writes, reads, bytes_after, words_after};
 ghost use Rattle.codec.specs.Filing.{filed_of, words_again, bytes_again, lent_after};

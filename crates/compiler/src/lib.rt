@@ -1,5 +1,6 @@
 // The compiler: document 01, "Fill and slots", "Records" and checks 1 to 6; document 02, A.7 and A.11.
 #![tactic(auto)]
+
 mod sweeps;
 
 ghost use Rattle.std.specs.Prelude.{◌≡◌, List, ◌++◌, ℕ, ◌+◌, ◌*◌, ◌≤◌, length, take, drop};

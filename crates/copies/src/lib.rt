@@ -1,5 +1,6 @@
 // Programs edited by hand: whether a program is the one compiled for a plan, but for unused records between its own. Document 02, A.10.
 #![tactic(auto)]
+
 ghost use Rattle.std.specs.Prelude.{◌≡◌, true, [], length, suc, ◌+◌, ◌*◌, ◌≤◌, ◌<◌};
 ghost use Rattle.model.specs.Check.{record_at, chain};
 ghost use Rattle.model.specs.Compile.{good, orderly};

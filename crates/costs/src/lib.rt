@@ -1,5 +1,6 @@
 // Whether a plan costs as many products as a full table. Document 02, A.14.
 #![tactic(auto)]
+
 ghost use Rattle.std.specs.Prelude.{◌≡◌, ◌*◌, ◌≤◌, length};
 ghost use Rattle.model.specs.Compile.{good, orderly};
 ghost use Rattle.model.specs.Dearest.{costs, work_costed, most_products};

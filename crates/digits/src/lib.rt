@@ -1,5 +1,6 @@
 // A finite value as a whole number of 2^-1074, and the product of two numbers of 53 binary digits. Document 02, A.4.
 #![tactic(auto)]
+
 ghost use Rattle.std.specs.Prelude.{◌≡◌, true, ◌+◌, ◌*◌, ◌^◌, ◌<◌};
 ghost use Rattle.model.specs.Arith.{is_finite};
 ghost use Rattle.digits.specs.Parted.{Parted};

@@ -1,5 +1,6 @@
 // Labels of places and places of labels: document 01, "Places and labels".
 #![tactic(auto)]
+
 ghost use Rattle.std.specs.Prelude.{◌≡◌, cond, ◌*◌, ◌≤◌, ◌<◌};
 ghost use Rattle.model.specs.Label.{is_label, sought, at};
 ghost use Rattle.model.specs.Label;

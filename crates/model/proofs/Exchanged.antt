@@ -1,5 +1,5 @@
 -- The slots of a plan before and after an exchange of rooms t and t + 1, by the two batches that change. For document 02, A.12.
-use Prim.Native.Nat.{ℕ, zero, suc, ◌+◌, ◌-◌, ◌≤◌, ◌<◌, min}
+use Prim.Native.Nat.{ℕ, zero, suc, ◌+◌, ◌-◌, ◌≤◌, ◌<◌}
 use native.Mathlib.Nat.{eq-or-lt_of_le}
 use native.Mathlib.Omega.{arith}
 use mathlib.Core.Path.{◌≡◌, refl, sym, ap, ap₂, ◌∙◌}
@@ -14,7 +14,7 @@ use Rattle.model.proofs.Labels.{Inside}
 use Rattle.model.proofs.Sums.{rising-same, rising_both, rising_but_two}
 use Rattle.model.proofs.Plans.{pivot-held, missing-free}
 use Rattle.model.proofs.Batches.{down_of, right_of, batch_slots, slots_by_batches}
-use Rattle.model.proofs.Reach.{reach, held_reach}
+use Rattle.model.proofs.Reach.{reach}
 use Rattle.model.proofs.Exchange.{
   other,
   other-same,

@@ -1,6 +1,6 @@
 -- How long the slots of a plan's places are used: those of l(m,h) up to the last u(m,j) with (h,j) held, or y(m) where there is none, those of a pivot up to
 -- the end of its batch, and those of u up to the solution.
-use Prim.Native.Nat.{ℕ, zero, suc, ◌+◌, ◌-◌, ◌≤◌, ◌<◌}
+use Prim.Native.Nat.{ℕ, zero, suc, ◌-◌, ◌≤◌, ◌<◌}
 use native.Mathlib.Omega.{arith}
 use native.Mathlib.Decide.{dec_le}
 use mathlib.Core.Path.{◌≡◌, refl, sym, ap, ◌∙◌}

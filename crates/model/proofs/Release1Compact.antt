@@ -9,8 +9,7 @@ use lib.ListN.{length, get_or, length-append, get_or-append}
 use Rattle.model.specs.Release1 as R
 use Rattle.model.specs.Lists.{rising}
 use Rattle.model.specs.Label.{is_order}
-use Rattle.model.specs.Fill.{Plan, slots, missing}
-use Rattle.model.specs.Formula.{C}
+use Rattle.model.specs.Fill.{Plan, missing}
 use Rattle.model.specs.Program.{Record, rec, program, compiled}
 use Rattle.model.specs.Compile.{judged, good}
 use Rattle.model.specs.Check.{kind_of}

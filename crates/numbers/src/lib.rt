@@ -1,5 +1,6 @@
 // Small functions on numbers, for all crates above.
 #![tactic(auto)]
+
 ghost use Rattle.std.specs.Prelude.{◌≡◌, min, max};
 ghost use Rattle.model.specs.Label;
 

@@ -1,9 +1,6 @@
 -- What holds while a path is written, entry by entry. Definitions only.
-use Rattle.std.specs.Prelude.{ℕ, ◌+◌, ◌-◌, ◌*◌, ◌≤◌, ◌<◌, ◌≡◌, true, false, List, [], ◌∷◌, ◌++◌, ltb, length, get_or, take, drop}
-use Rattle.model.specs.Label.{label}
-use Rattle.model.specs.Fill.{Plan, in_plan, held}
-use Rattle.model.specs.Compile.{judged, good}
-use Rattle.model.proofs.Labels.{Inside}
+use Rattle.std.specs.Prelude.{ℕ, ◌+◌, ◌*◌, ◌≤◌, ◌<◌, ◌≡◌, List, [], ◌∷◌, ◌++◌, length, take, drop}
+use Rattle.model.specs.Fill.{Plan}
 use Rattle.model.specs.Route.{leg}
 use Rattle.plans.specs.Stands.{Leads}
 use Rattle.paths.specs.declared.Trail.{Trail}

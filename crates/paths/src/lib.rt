@@ -1,5 +1,6 @@
 // Why a place is held: a path through places of the plan. Document 02, A.2.
 #![tactic(auto)]
+
 ghost use Rattle.std.specs.Prelude.{◌≡◌, ◌&&◌, ◌-◌, ◌*◌, ◌≤◌, ◌<◌, ltb, length, get_or};
 ghost use Rattle.model.specs.Label.{is_place};
 ghost use Rattle.model.specs.Label;

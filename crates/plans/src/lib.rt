@@ -1,5 +1,6 @@
 // A plan's checks 1 to 5 and its slots, for every call that takes a plan: document 01, "Fill and slots" and "Where each refusal is checked".
 #![tactic(auto)]
+
 ghost use Rattle.std.specs.Prelude.{◌≡◌, ◌*◌, ◌≤◌, length, replicate, true};
 ghost use Rattle.model.specs.Label.{is_order};
 ghost use Rattle.model.specs.Compile.{judged, good, orderly};

@@ -13,7 +13,6 @@ use Rattle.model.specs.Check.{Open, idle, busy, is_idle, Kind, opens, subtracts,
 use Rattle.model.specs.Check.{is_sweep, belongs, formed, in_order, in_turn, in_row, allowed, counted, onward}
 use Rattle.progress.specs.declared.Head.{Head}
 use Rattle.progress.specs.declared.Target.{Target}
-use Rattle.progress.specs.declared.Target.TheVariants as Target
 use Rattle.progress.specs.declared.Progress.{Progress}
 use Rattle.progress.specs.Steps.{open_of, open_number, progress_of, total, first_of, refusal_of}
 
@@ -23,6 +22,9 @@ idle-number Target.Nothing k = refl
 idle-number Target.C k = refl
 idle-number Target.Y k = refl
 idle-number Target.X k = refl
+
+pub idle-now : (t : Target) (k : ℕ) {n : ℕ} → n ≡ open_number t → eqb n 0 ≡ is_idle (open_of t k)
+idle-now t k e = ap (λ m. eqb m 0) e ∙ idle-number t k
 
 pub opens-order : (t : Table) (o : Open) → is_idle o ≡ in_order (opens t) o
 unfolding in_order
@@ -103,10 +105,6 @@ subtracting kind low high = subst Subtracting (omega arith) (step (kind - 4) (om
     step (suc zero) h = record { table = Y; kind_is = known refl refl; number_is = refl }
     step (suc (suc zero)) h = record { table = X; kind_is = known refl refl; number_is = refl }
     step (suc (suc (suc d))) h = absurd (omega arith)
-
--- a number that is at least j, and not j, is above it
-pub above : (k j : ℕ) → j ≤ k → (k ≡ j → ⊥) → suc j ≤ k
-above k j low other = omega arith
 
 -- with s above 0 a program is no sweep
 pub no_sweep : (s : ℕ) → 0 < s → is_sweep s ≡ false

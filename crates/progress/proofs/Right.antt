@@ -11,7 +11,6 @@ use Rattle.model.specs.Check.{belongs, formed, in_order, in_turn, same_table}
 use Rattle.model.proofs.Within.{within-range}
 use Rattle.progress.specs.declared.Head.{Head}
 use Rattle.progress.specs.declared.Target.{Target}
-use Rattle.progress.specs.declared.Target.TheVariants as Target
 use Rattle.progress.specs.declared.Progress.{Progress}
 use Rattle.progress.specs.Steps.{open_of, open_number, progress_of, first_of, right_in}
 use Rattle.progress.proofs.Judging.{Known, is_crout, no_sweep, crout_arm}

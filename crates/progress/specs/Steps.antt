@@ -4,7 +4,6 @@ use Rattle.model.specs.Formula.{C, Y, X, number_of}
 use Rattle.model.specs.Check as Check
 use Rattle.model.specs.Check.{idle, busy, kind_of, belongs, formed, in_order, allowed}
 use Rattle.progress.specs.declared.Target.{Target}
-use Rattle.progress.specs.declared.Target.TheVariants as Target
 use Rattle.progress.specs.declared.Progress.{Progress}
 use Rattle.progress.specs.declared.Head.{Head}
 

@@ -1,5 +1,6 @@
 // The progress of a check, and one record against 10 to 12: document 01, "Where each refusal is checked"; document 02, A.7 and A.11.
 #![tactic(auto)]
+
 ghost use Rattle.std.specs.Prelude.{◌≡◌, ◌&&◌, ◌≤◌, ◌<◌, eqb};
 ghost use Rattle.model.specs.Label;
 ghost use Rattle.model.specs.Formula.{C, Y, X};

@@ -1,5 +1,6 @@
 // What is left over of each row, exactly: b less the sum of a times x, as a whole number of 2^-2148. Document 02, A.4.
 #![tactic(auto)]
+
 ghost use Rattle.std.specs.Prelude.{◌≡◌, true, ◌&&◌, suc, ◌^◌, ◌*◌, ◌≤◌, ◌<◌, eqb, length, replicate, pos, ◌*ℤ◌, Float, List};
 ghost use Rattle.model.specs.Label.{is_order};
 ghost use Rattle.model.specs.Arith.{is_finite};

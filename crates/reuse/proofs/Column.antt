@@ -5,7 +5,7 @@ use mathlib.Core.Path.{◌≡◌, refl, ap, ◌∙◌}
 use mathlib.Core.Bool.{Bool, true, false}
 use mathlib.Core.List.{List}
 use lib.ListN.{get_or}
-use Rattle.model.specs.Label.{label, places}
+use Rattle.model.specs.Label.{label}
 use Rattle.model.specs.Fill.{Plan, held}
 use Rattle.model.proofs.Plans.{pivot-held}
 use Rattle.model.proofs.Labels.{Inside, label_down, label-range, label_in_column}

@@ -8,8 +8,8 @@ use mathlib.Core.Path.{◌≡◌, refl, sym, ap, ap₂, ◌∙◌}
 use mathlib.Core.Bool.{Bool, true, false, cond, not, ◌&&◌}
 use mathlib.Core.List.{List, ◌∷◌}
 use lib.Dec.{ltb, eqb}
-use lib.ListN.{length, get_or, set, take, drop, length-take, drop_of_length-le}
-use lib.Seq.{get_or-set_other, drop-cons, drop_at, set_split}
+use lib.ListN.{length, get_or, set, drop}
+use lib.Seq.{drop-cons}
 use borrow.Author.Tests.{lt-ltb}
 use Rattle.model.specs.Label.{label}
 use Rattle.model.specs.Fill.{Plan, held}
@@ -24,21 +24,10 @@ use Rattle.reuse.specs.declared.Walk.{Walk}
 
 -- ---- one slot
 
--- a slot goes on top of the free ones
-pub on_top : (free : List ℕ) (top k : ℕ) → 0 < top → top ≤ length free → drop (top - 1) (set free (top - 1) k) ≡ k ∷ drop top free
-on_top free top k some fits =
-    let back : suc (top - 1) ≡ top = omega arith in
-    ap (drop (top - 1)) (set_split free (top - 1) k (omega arith))
-    ∙ rw back (drop_at (take (top - 1) free) _ (top - 1) (omega (arith, length-take (top - 1) free)))
-
 has_number : (slots : List ℕ) {at k : ℕ} → at ≡ k → (get_or slots at 0 ≡ 0 → ⊥) → ltb 0 (get_or slots k 0) ≡ true
 has_number slots {at} e some = rw e at (lt-ltb 0 (get_or slots at 0) (omega (arith, some)))
 
--- and the numbers below are as they were
-pub below_top : (free : List ℕ) (top k i : ℕ) → 0 < top → suc i < top → get_or (set free (top - 1) k) i 0 ≡ get_or free i 0
-below_top free top k i some early = get_or-set_other free (top - 1) i k 0 (λ e. omega arith)
-
--- a place without a number is passed; another takes the slot on top, or a new one
+-- a place without a number is passed; another takes the slot on top
 module _ {given : List ℕ} {walk : Walk} {at : ℕ} (here : at ≡ walk.done) where
   pub gave-none : walk.top ≤ length given → get_or given at 0 ≡ 0
       → Gave given walk given (record { done = walk.done + 1; top = walk.top; made = walk.made })
@@ -58,20 +47,6 @@ module _ {given : List ℕ} {walk : Walk} {at : ℕ} (here : at ≡ walk.done) w
         slot_is = rw (here, numbered, first);
         free-are = rw (numbered, first, add-one);
         made-are = rw (numbered, first);
-      }
-
-  pub gave_new : walk.top ≤ length given → length given ≤ walk.top → (get_or given at 0 ≡ 0 → ⊥)
-      → Gave given walk (set given at (walk.made + 1)) (record { done = walk.done + 1; top = walk.top; made = walk.made + 1 })
-  gave_new fits past some =
-      let numbered = has_number given here some in
-      let none = drop_of_length-le given past in
-      record {
-        passed = add-one _;
-        near = omega arith;
-        fits = fits;
-        slot_is = rw (here, numbered, none, add-one);
-        free-are = rw (numbered, none);
-        made-are = rw (numbered, none) (add-one _);
       }
 
 -- ---- a row's free slots

@@ -178,7 +178,7 @@ module _ {n : ℕ} {L : Plan} {m from : ℕ} {last given : List ℕ} (inside : I
       let on : t + suc r ≡ suc t + r = omega arith in
       let more : (k : ℕ) → walk.done + suc k ≡ walk.done + 1 + k = λ k. omega arith in
       let first = row_skip row right (omega arith) (rw (add-zero walk.done) at (none 0 (omega arith))) in
-      rw (on, more r) (row-skips r first (omega arith) (omega arith) (λ k below. rw (more k) at (none (suc k) (omega arith))))
+      rw (on, more r) (row-skips {t = suc t} {walk = further walk 1} r first (omega arith) (omega arith) (λ k below. rw (more k) at (none (suc k) (omega arith))))
 
 -- ---- the place (m, t), by its column
 
@@ -189,9 +189,11 @@ module _ {n : ℕ} {L : Plan} {m from : ℕ} {last given : List ℕ} {walk : Wal
   module _ {given' : List ℕ} {after : Walk} (gave : Gave given walk given' after) {at : ℕ} (here : at ≡ walk.done) where
     pub place-passed : (t : ℕ) → Inside n m t → m < t → RowAt n L m (t - 1) from last given walk → get_or given at 0 ≡ 0
         → RowAt n L m t from last given' after
+    place-passed zero inside right row empty = elim right [ ]
     place-passed (suc t) inside right row empty = row-passed (before-next t row) inside (omega arith) gave here empty
 
     pub place-room : (t : ℕ) → Inside n m t → m < t → RowAt n L m (t - 1) from last given walk → (get_or given at 0 ≡ 0 → ⊥) → n * n + m ≤ after.top
+    place-room zero inside right row some = elim right [ ]
     place-room (suc t) inside right row some = row_top (before-next t row) inside (omega arith) gave here some
 
     pub place_took : (t : ℕ) → Inside n m t → m < t → RowAt n L m (t - 1) from last given walk → (get_or given at 0 ≡ 0 → ⊥)
@@ -199,4 +201,5 @@ module _ {n : ℕ} {L : Plan} {m from : ℕ} {last given : List ℕ} {walk : Wal
         → ((i : ℕ) → i < n * n → get_or given'' i 0 ≡ get_or given' i 0)
         → drop top given'' ≡ freed_along n (set last k t) given' m t (max 1 from) (drop after.top given')
         → RowAt n L m t from (set last k t) given'' (freeing after top)
+    place_took zero inside right row some {top = top} {k = k} e = elim right [ ]
     place_took (suc t) inside right row some e = rw e (row_took (before-next t row) inside (omega arith) gave here some)

@@ -1,5 +1,6 @@
 // Slots given to the places of a plan, and given again: document 02, A.11. The places are walked in dense order; no record is looked at.
 #![tactic(auto)]
+
 ghost use Rattle.std.specs.Prelude.{◌≡◌, cond, ◌∷◌, ℕ, suc, ◌+◌, ◌-◌, ◌*◌, ◌≤◌, ◌<◌, max, length, get_or, drop};
 ghost use Rattle.model.specs.Fill.{Plan};
 ghost use Rattle.model.proofs.Labels.{Inside};

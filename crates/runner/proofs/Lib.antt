@@ -1,6 +1,5 @@
 -- The laws that the proofs of `runner` share.
 pub mod Tables
-pub mod Methods
 pub mod Relying
 pub mod Turns
 pub mod Stood

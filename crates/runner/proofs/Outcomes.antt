@@ -38,6 +38,7 @@ module _ (c y x c₁ y₁ x₁ : List Float) where
   leaves_final (solution t p q g k) r is runs stood = stood
   leaves_final (unsettled_at t) r is runs stood = stood
   leaves_final (stopped n k u m) r is runs stood = absurd (is (subst StoppedReply (sym stood.0) tt))
+  leaves_final (refused_by _ _) r is runs stood = elim runs [ ]
 
   pub leaves-cleared : (o : Outcome) (r : Reply) → StoppedReply r → r ≡ reply o → length c₁ ≡ length c → length y₁ ≡ length y → length x₁ ≡ length x
       → Leaves o r c y x (replicate (length c₁) plus_zero) (replicate (length y₁) plus_zero) (replicate (length x₁) plus_zero)

@@ -90,3 +90,9 @@ module _ (N n : ℕ) (limit : Float) (A B olds x : List Float) (z : State) (move
       by (busy C k) order row = absurd row
       by (busy Y k) order row = absurd row
       by (busy X k) order row = (row.0, omega (arith, row))
+  relies_row (opens C) of order turn = elim of [ ]
+  relies_row (opens Y) of order turn = elim of [ ]
+  relies_row (subtracts C) of order turn = elim of [ ]
+  relies_row (subtracts Y) of order turn = elim of [ ]
+  relies_row closes_pivot of order turn = elim of [ ]
+  relies_row none of order turn = elim of [ ]

@@ -9,7 +9,6 @@ use lib.Seq.{take_all}
 use lib.Ieee.{Float}
 use borrow.Author.Tests.{eqb-true}
 use Rattle.model.specs.Arith.{plus_zero, clean}
-use Rattle.model.specs.Formula.{C, Y, X}
 use Rattle.model.specs.Sweep.{Once, swept, ends, Sweeps, settled, unsettled, ended, sweeping, moved, loaded}
 use Rattle.model.specs.Check.{word, chain, is_sweep}
 use Rattle.model.specs.Run as Run

@@ -2,16 +2,14 @@
 use Prim.Native.Nat.{ℕ, ◌+◌, ◌*◌, ◌/◌, ◌-◌, ◌≤◌, ◌<◌}
 use native.Mathlib.Omega.{arith}
 use mathlib.Core.Path.{◌≡◌, refl, sym, ap, ap₂, subst, ◌∙◌}
-use mathlib.Core.Bool.{Bool, true, false, cond, ◌||◌, ◌&&◌}
+use mathlib.Core.Bool.{Bool, true, false, cond, ◌||◌}
 use mathlib.Core.List.{List, map}
 use lib.Dec.{eqb}
 use lib.ListN.{length, take, drop, get_or, length-map}
 use lib.Seq.{drop-length}
 use lib.Ieee.{Float}
 use borrow.Author.Tests.{eqb-true, eqb-false, ne_eqb}
-use Rattle.model.specs.Label.{within}
 use Rattle.model.specs.Arith.{plus_zero, clean}
-use Rattle.model.specs.Formula.{X}
 use Rattle.model.specs.Sweep.{moves_more, moved}
 use Rattle.model.specs.Check.{word, next_of, chain, is_idle, complete, Kind, opens, subtracts, divides, closes, closes_pivot, none, kind_of}
 use Rattle.model.specs.Check.{is_sweep, length_y, belongs, allowed}
@@ -34,9 +32,6 @@ pub record SameLengths (c₀ y₀ x₀ c y x : List Float) : Type 0 where
   pub of_c : length c ≡ length c₀
   pub of_y : length y ≡ length y₀
   pub of_x : length x ≡ length x₀
-
-pub same_lengths_trans : {c₀ y₀ x₀ c y x c' y' x' : List Float} → SameLengths c₀ y₀ x₀ c y x → SameLengths c y x c' y' x' → SameLengths c₀ y₀ x₀ c' y' x'
-same_lengths_trans s t = record { of_c = t.of_c ∙ s.of_c; of_y = t.of_y ∙ s.of_y; of_x = t.of_x ∙ s.of_x }
 
 -- so has what stands in their places
 same_place : (sweep : Bool) (given lent lent' : List Float) → length lent' ≡ length lent

@@ -1,5 +1,6 @@
 // A checked program on values: document 01, "Running", and 14 to 17; document 02, A.1, A.5, A.7 and A.11.
 #![tactic(auto)]
+
 ghost use Rattle.std.specs.Prelude.{◌≡◌, true, false, ◌<◌, length, replicate};
 ghost use Rattle.model.specs.Arith.{plus_zero};
 ghost use Rattle.model.specs.Formula.{C, Y, X};

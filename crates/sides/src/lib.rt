@@ -1,5 +1,6 @@
 // One record on many right sides: document 02, A.6. What is in C is worked once, what is in Y and X for each side that goes on.
 #![tactic(auto)]
+
 pub mod each;
 
 ghost use Rattle.std.specs.Prelude.{length};

@@ -1,5 +1,6 @@
 // The slot pass: a plan's labels marked in the work numbers, and these marks turned into slots in place. Document 01, "Fill and slots".
 #![tactic(auto)]
+
 pub mod lines;
 
 ghost use Rattle.std.specs.Prelude.{◌≡◌, true, cond, ◌&&◌, ◌++◌, suc, ◌+◌, ◌-◌, ◌*◌, ◌≤◌, ◌<◌, min, max, ltb, eqb, length, get_or, set, drop, replicate};

@@ -5,6 +5,7 @@
 // bit, with the plan's product count, or 16 or 17 at the same formula. A plan refused for a missing pivot is solved by dense Crout for no finite values
 // and no limit: that is the law `never_solved` in crates/model/proofs/Reduction.antt.
 #![tactic(auto)]
+
 ghost use Rattle.std.specs.Prelude.{◌≡◌, length};
 ghost use Rattle.model.specs.Formula.{C, Y, X};
 ghost use Rattle.model.specs.Compile.{work_after, words_after};

@@ -9,7 +9,7 @@ use lib.ListN.{length, take, get_or, set, length-map, length-set, get_or-map}
 use lib.Ieee.{Float}
 use borrow.Author.Tests.{eqb-true, leb-true, lt-ltb}
 use Rattle.model.specs.Arith.{plus_zero, clean, Answer, number, overflow, zero_divisor, quotient, vanishes}
-use Rattle.model.specs.Formula.{C, Y, X, entry, put_x, closed, starting, less}
+use Rattle.model.specs.Formula.{X, put_x, closed, starting, less}
 use Rattle.model.specs.Sweep.{moves_more}
 use Rattle.model.specs.Check.{Kind, opens, subtracts, divides, closes, kind_of, belongs}
 use Rattle.model.specs.Run as Run

@@ -21,10 +21,6 @@ use Rattle.state.specs.declared.Stepped.TheVariants.{On}
 use Rattle.state.specs.States.{table_of, state_of, answered, Sound, FreeIn, Free, Of}
 use Rattle.state.proofs.Tables.{take-set, drop-set, get_or_last}
 
--- the state after an operation, or its refusal
-pub answer_is : (r r' : Operation) (a : Answer) (f : Float → State) → r ≡ r' → answer_of r ≡ a → answered (answer_of r') f ≡ answered a f
-answer_is r r' a f e is = ap (λ o. answered (answer_of o) f) (sym e) ∙ ap (λ b. answered b f) is
-
 -- the state after a product, which the operation's case counts
 pub product_is : (r r' : Operation) (acc a b : Float) (f : Bool → Float → State) → r ≡ r' → answer_of r ≡ less acc a b
     → has_vanished r ≡ (is_finite acc && vanishes a b) → answered (answer_of r') (f (has_vanished r')) ≡ answered (less acc a b) (f (vanishes a b))

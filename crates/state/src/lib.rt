@@ -1,5 +1,6 @@
 // The state of a run, and one record on it: document 01, "Running"; document 02, A.1, A.5, A.6, A.7 and A.11.
 #![tactic(auto)]
+
 ghost use Rattle.std.specs.Prelude.{◌≡◌, cond, [], map, ◌-◌, ◌≤◌, ◌<◌, eqb, length, get_or, set};
 ghost use Rattle.model.specs.Arith.{plus_zero, clean, quotient, vanishes};
 ghost use Rattle.model.specs.Formula.{less};

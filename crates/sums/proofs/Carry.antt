@@ -1,5 +1,5 @@
 -- What is carried on: the laws of one word, of a row of words and of a shifted word. Document 02, A.4.
-use Rattle.std.proofs.Common.{◌≡◌, ℕ, zero, suc, ◌+◌, ◌-◌, ◌*◌, ◌/◌, ◌%◌, ◌^◌, ◌<◌, ◌≤◌, Bool, true, false, ltb, List, ◌∷◌, length, get_or, set, sym, refl, ap, ◌∙◌, mul-le-mul_right, mod-lt, mul_assoc, mul_comm, div-lt_iff_lt-mul, div-add-mod', div-le_self, arith, length-set, pow_pos, pow-add, ltb-false, ltb-true}
+use Rattle.std.proofs.Common.{◌≡◌, ℕ, zero, suc, ◌+◌, ◌-◌, ◌*◌, ◌/◌, ◌%◌, ◌^◌, ◌<◌, ◌≤◌, Bool, true, false, ltb, List, [], ◌∷◌, length, get_or, set, sym, refl, ap, ◌∙◌, mul-le-mul_right, mod-lt, mul_assoc, mul_comm, div-lt_iff_lt-mul, div-add-mod', div-le_self, arith, length-set, pow_pos, pow-add, ltb-false, ltb-true}
 use native.Mathlib.Nat.{mul-mod_left}
 use native.Mathlib.Nat.{div-div-eq-div-mul, mul-div-mul_right}
 use lib.Arith.{mod-mul}
@@ -40,6 +40,7 @@ weight_next i next h = let e : 64 * next ≡ 64 + 64 * i = omega arith in ap (λ
 set-joined : (words : List ℕ) (i word : ℕ) → i < length words
     → joined64 (set words i word) + get_or words i 0 * 2 ^ (64 * i) ≡ joined64 words + word * 2 ^ (64 * i)
 unfolding joined64
+set-joined [] i word h = absurd (omega arith)
 set-joined (w ∷ words) zero word h = omega arith
 set-joined (w ∷ words) (suc i) word h =
     go w (2 ^ 64) _ _ (get_or words i 0) word (2 ^ (64 * i)) _ (weight_next i (suc i) (omega arith)) (set-joined words i word (omega arith))

@@ -1,5 +1,6 @@
 // A row of 64-bit words, low word first, as one number: adding to it and subtracting from it with carry. Document 02, A.4.
 #![tactic(auto)]
+
 ghost use Rattle.std.specs.Prelude.{◌≡◌, ◌+◌, ◌*◌, ◌^◌, ◌<◌, ◌≤◌, length};
 ghost use Rattle.model.specs.Residual.{joined64};
 ghost use Rattle.sums.specs.Added.{Changed, Carrying, three_at};

@@ -1,5 +1,6 @@
 // The writer: the records of a plan's formulas, from its work numbers. Document 01, "Records".
 #![tactic(auto)]
+
 pub mod rows;
 
 ghost use Rattle.std.specs.Prelude.{◌≡◌, cond, ◌∷◌, [], ◌++◌, eqb, suc, ◌-◌, ◌*◌, ◌≤◌, min, length, drop, set};

@@ -24,7 +24,7 @@ product_answer-requires c κs = search rules
 -- a product that passed the test is no zero
 nonzero : (c : tie.Then-product-2) → is_zero (mul binary64 c.args.a c.args.b) ≡ false
 unfolding of_bits
-nonzero c = ⊎_elim (λ w. below_nonzero _ w.0.taken) (λ w. above_nonzero _ (sym w.1 ∙ c.if-product-2.true)) c.if-product.branch
+nonzero c = ⊎_elim (λ w. below_nonzero _ w.if-product.true) (λ w. above_nonzero _ (sym w.value-is ∙ c.if-product-2.true)) c.if-product.branch-raw
 
 returns-then-product-2 : tie.Need-returns-then-product-2
 unfolding less product difference

@@ -5,9 +5,6 @@ use Rattle.checker.proofs.Whole.{any_slots}
 use Rattle.checker.proofs.check.Statement.{statement}
 use Rattle.checker.proofs.check.Tie as tie
 
-slice-aggregate-check-either : tie.Need-slice-aggregate-check-either
-slice-aggregate-check-either c = search rules
-
 check-either-requires : tie.Need-check_either-requires
 check-either-requires c κs = search rules
 
@@ -15,4 +12,4 @@ returns : tie.Need-returns
 returns c = c.check_either.ensures ∙ any_slots _
 
 pub check_spec : {M : Type 1} → statement M
-check_spec = tie.close (tie.spec slice-aggregate-check-either check-either-requires returns)
+check_spec = tie.close (tie.spec check-either-requires returns)

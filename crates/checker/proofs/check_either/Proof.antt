@@ -6,7 +6,6 @@ use mathlib.Core.List.{List}
 use native.Mathlib.Omega.{arith}
 use lib.ListN.{length}
 use borrow.Author.Rules.{rules}
-use borrow.Author.Tests.{not-true, not-false}
 use Rattle.checker.specs.Source.{content}
 use Rattle.checker.specs.Whole.{count_fits}
 use Rattle.checker.proofs.Whole.{count_true, head_of, refused_7, refused_8, chain-checked}
@@ -31,10 +30,10 @@ seven : (c : tie.After-count_fits) → count_fits (length (program (entry c))) �
 seven c = ap count_fits (sym (entry c).requires) ∙ sym c.count_fits.ensures
 
 fits : (c : tie.Else-not-count_fits) → count_fits (length (program (entry c.before))) ≡ true
-fits c = seven c.before ∙ not-false _ c.if-not-count_fits.false
+fits c = seven c.before ∙ c.if-not-count_fits.false
 
 returns-then-not-count_fits : tie.Need-returns-then-not-count_fits
-returns-then-not-count_fits c = refused_7 _ (program (entry c.before)) (seven c.before ∙ not-true _ c.if-not-count_fits.true)
+returns-then-not-count_fits c = refused_7 _ (program (entry c.before)) (seven c.before ∙ c.if-not-count_fits.true)
 
 record_at-requires : tie.Need-record_at-requires
 record_at-requires c κs = omega (arith, count_true (length (program (entry c.before))) (fits c))
@@ -52,7 +51,7 @@ head_fits-requires c κs = search rules
 returns-then-not-head_fits : tie.Need-returns-then-not-head_fits
 returns-then-not-head_fits c =
     let h = c.before.before in
-    refused_8 _ _ _ (head h) (fits (counted h)) (sym c.head_fits.ensures ∙ not-true _ c.if-not-head_fits.true)
+    refused_8 _ _ _ (head h) (fits (counted h)) (sym c.head_fits.ensures ∙ c.if-not-head_fits.true)
 
 follow-requires : tie.Need-follow-requires
 follow-requires c κs =
@@ -63,7 +62,7 @@ returns-3 : tie.Need-returns
 returns-3 c =
     let h = c.before.before.before in
     c.follow.ensures
-    ∙ chain-checked _ _ _ (head h) (fits (counted h)) (sym c.head_fits.ensures ∙ not-false _ c.if-not-head_fits.false)
+    ∙ chain-checked _ _ _ (head h) (fits (counted h)) (sym c.head_fits.ensures ∙ c.if-not-head_fits.false)
 
 pub check_either_spec : {M : Type 1} → statement M
 check_either_spec =

@@ -5,7 +5,7 @@ use mathlib.Core.Path.{◌≡◌, sym, ap, ◌∙◌}
 use mathlib.Core.List.{List}
 use native.Mathlib.Omega.{arith}
 use borrow.Author.Rules.{rules}
-use borrow.Author.Tests.{not-true, not-false, eqb-true, eqb-false}
+use borrow.Author.Tests.{eqb-true, eqb-false}
 use Rattle.model.specs.Check.{next_of, refusal, kind_of, onward}
 use Rattle.model.proofs.Passing.{next-range}
 use Rattle.checker.specs.Source.{content}
@@ -72,12 +72,12 @@ returns-then-not-may_follow : tie.Need-returns-then-not-may_follow invariant-loo
 returns-then-not-may_follow c =
     let l = c.loop-h in
     check_breaks _ _ l.g l.k l.invariant _ _ (next c.before.before.before) (omega arith) c.if-next-eq0.false
-    (sym c.may_follow.ensures ∙ not-true _ c.if-not-may_follow.true)
+    (sym c.may_follow.ensures ∙ c.if-not-may_follow.true)
 
 loop2-holds : tie.Need-loop-h-2-init invariant-loop-h-2 decreases-loop-h-2 invariant-loop-h decreases-loop-h
 loop2-holds c =
     let w = c.before.before.before in
-    let range = next-range _ _ _ (sym c.may_follow.ensures ∙ not-false _ c.if-not-may_follow.false) in
+    let range = next-range _ _ _ (sym c.may_follow.ensures ∙ c.if-not-may_follow.false) in
     (omega arith, range.1, record { here = w.loop-h.invariant; is = next w; up = range.0; low = omega arith })
 
 record_at-r-requires : tie.Need-record_at-r-requires invariant-loop-h-2 decreases-loop-h-2 invariant-loop-h decreases-loop-h
@@ -114,7 +114,7 @@ turn c =
 returns-then-not-is_right : tie.Need-returns-then-not-is_right invariant-loop-h-2 decreases-loop-h-2 invariant-loop-h decreases-loop-h
 returns-then-not-is_right c =
     let read = c.before.before.before in
-    let wrong = sym c.is_right.ensures ∙ not-true _ c.if-not-is_right.true in
+    let wrong = sym c.is_right.ensures ∙ c.if-not-is_right.true in
     ap (λ m. refusal m read.loop-h-2.next) c.judge.ensures ∙ check-refuses _ _ _ _ _ _ (turn read) (eqb-false (refusal_now read) 0 wrong)
 
 onward-g-requires : tie.Need-onward-g-requires invariant-loop-h-2 decreases-loop-h-2 invariant-loop-h decreases-loop-h
@@ -122,10 +122,10 @@ onward-g-requires c κs = omega arith
 
 -- after that record
 arrived : (o : tie.After-onward-g invariant-loop-h-2 decreases-loop-h-2 invariant-loop-h decreases-loop-h) → let start = entry (reading o) in
-    CheckAfter start.args.h (program start) o.onward-g.result (reading o).before.loop2.next
+    CheckAfter start.args.h (program start) o.onward-g.result (reading o).loop-h-2.next
 arrived o =
     let read = reading o in
-    let right = sym o.is_right.ensures ∙ not-false _ o.if-not-is_right.false in
+    let right = sym o.is_right.ensures ∙ o.if-not-is_right.false in
     check_goes_on _ _ _ _ _ _ (turn read) (eqb-true (refusal_now read) 0 right) o.onward-g.result
     (o.onward-g.ensures ∙ ap (λ r. onward (kind_of r.kind) r.p r.q (progress_of read.loop-h-2.g)) read.record_at-r.ensures)
 
@@ -133,7 +133,7 @@ nearer : (records k₀ k next : ℕ) → k₀ ≤ k → k < next → next < reco
 nearer records k₀ k next from up low = omega arith
 
 loop-less : tie.Need-loop-h-smaller-then-records-following invariant-loop-h-2 decreases-loop-h-2 invariant-loop-h decreases-loop-h
-loop-less c = let l = (reading c.before).before.loop2 in nearer _ _ _ _ l.inv.0 l.inv.2.up l.inv.1
+loop-less c = let l = (reading c.before).loop-h-2 in nearer _ _ _ _ l.invariant.0 l.invariant.2.up l.invariant.1
 
 loop-again : tie.Need-loop-h-preserved-then-records-following invariant-loop-h-2 decreases-loop-h-2 invariant-loop-h decreases-loop-h
 loop-again c = arrived c.before
@@ -159,14 +159,14 @@ inside records words n size below = omega arith
 loop2-again : tie.Need-loop-h-2-preserved invariant-loop-h-2 decreases-loop-h-2 invariant-loop-h decreases-loop-h
 loop2-again c =
     let read = reading c.before.before.before in
-    let l = read.loop-h-2.inv in (
+    let l = read.loop-h-2.invariant in (
       omega (arith, l.0, l.2.up),
       omega arith,
       record {
         here = arrived c.before.before.before;
         is = sym c.if-wide-following.false ∙ c.wide.ensures ∙ ap (λ r. r.next) read.record_at-r.ensures;
         up = one_more _;
-        low = inside _ _ _ (entry read).pre.1.1 (omega arith);
+        low = inside _ _ _ (entry read).requires.1.1 (omega arith);
       },
     )
 

@@ -9,13 +9,6 @@ use Rattle.costs.proofs.Answers.{refused-gap, says_yes, says_no}
 use Rattle.costs.proofs.cost_good.Statement.{statement}
 use Rattle.costs.proofs.cost_good.Tie as tie
 
--- Places of the code: the entry, seen from where the slots are given; and that place, seen from where no pivot is missing.
-abbrev entry : tie.After-slot-filled → tie.Start
-entry c = c.before.before.before.before.before.before
-
-abbrev slotted : tie.Else-missing-ne0 → tie.After-slot-filled
-slotted c = c.before.before.before.before.before
-
 slice_bounds-slot-end : tie.Need-slice_bounds-slot-end
 slice_bounds-slot-end c = search rules
 
@@ -32,32 +25,24 @@ shape_of-work-then-missing-ne0 : tie.Need-shape_of-work-then-missing-ne0
 shape_of-work-then-missing-ne0 c = search rules
 
 returns-then-missing-ne0 : tie.Need-returns-then-missing-ne0
-returns-then-missing-ne0 c =
-    let s = c.before.before.before.before.before in
-    refused-gap _ _ _ (entry s).requires s.slot-filled.ensures c.if-missing-ne0.true
+returns-then-missing-ne0 c = refused-gap _ _ _ c.requires c.slot-filled.ensures c.if-missing-ne0.true
 
 most_products-requires : tie.Need-most_products-requires
-most_products-requires c κs = let e = entry (slotted c) in within-range _ _ (orderly-good _ _ _ _ e.pre).0
+most_products-requires c κs = within-range _ _ (orderly-good _ _ _ _ c.requires).0
 
 shape_of-work-then-filled-most_products : tie.Need-shape_of-work-then-filled-most_products
 shape_of-work-then-filled-most_products c = search rules
 
 returns-then-filled-most_products : tie.Need-returns-then-filled-most_products
 returns-then-filled-most_products c =
-    let m = c.before.before in
-    let e = m.before in
-    let s = slotted e in
-    says_yes _ _ _ (entry s).pre s.slot-filled.ensures e.if-missing-ne0.false m.most_products.ensures c.if-filled-most_products.true
+    says_yes _ _ _ c.requires c.slot-filled.ensures c.if-missing-ne0.false c.most_products.ensures c.if-filled-most_products.true
 
 shape_of-work : tie.Need-shape_of-work
 shape_of-work c = search rules
 
 returns-3 : tie.Need-returns
 returns-3 c =
-    let m = c.before.before in
-    let e = m.before in
-    let s = slotted e in
-    says_no _ _ _ (entry s).pre s.slot-filled.ensures e.if-missing-ne0.false m.most_products.ensures c.if-filled-most_products.false
+    says_no _ _ _ c.requires c.slot-filled.ensures c.if-missing-ne0.false c.most_products.ensures c.if-filled-most_products.false
 
 pub cost_good_spec : {M : Type 1} → statement M
 cost_good_spec =

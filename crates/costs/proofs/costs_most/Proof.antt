@@ -1,8 +1,7 @@
 -- `costs::costs_most` is 1 to 4, then the rest for a plan that passes them.
 use native.Mathlib.Nat.{one-mul}
-use mathlib.Core.Path.{sym, ap, ◌∙◌}
+use mathlib.Core.Path.{sym}
 use borrow.Author.Rules.{rules}
-use Rattle.plans.specs.Judge.{labels_of}
 use Rattle.costs.proofs.Answers.{refused-early}
 use Rattle.costs.proofs.costs_most.Statement.{statement}
 use Rattle.costs.proofs.costs_most.Tie as tie
@@ -17,10 +16,10 @@ enum_told-1 : tie.Need-enum_told-1
 enum_told-1 c = search rules
 
 cost_good-requires : tie.Need-cost_good-requires
-cost_good-requires c κs = rw (one-mul _) at (sym c.check.ensures ∙ ap labels_of c.enum_told-1.given.1)
+cost_good-requires c κs = rw (one-mul _) at (sym c.in-Good.ensures)
 
 returns-in-Bad : tie.Need-returns-in-Bad
-returns-in-Bad c = refused-early _ _ _ (rw (one-mul _) at (sym c.check.ensures ∙ ap labels_of c.number-1.given.1))
+returns-in-Bad c = refused-early _ _ _ (rw (one-mul _) at (sym c.in-Bad.ensures))
 
 shape_of-work : tie.Need-shape_of-work
 shape_of-work c = search rules

@@ -56,7 +56,7 @@ nonzero_div-result : tie.Need-nonzero_div-result
 nonzero_div-result c = search rules
 
 overflow_add-result-2 : tie.Need-overflow_add-result-2
-overflow_add-result-2 c = omega (arith, (overflow_add-middle-2 c).ranges, upper-below c.args.a c.args.b c.requires.0 c.requires.1)
+overflow_add-result-2 c = omega (arith, (overflow_add-middle-2 c).fits, upper-below c.args.a c.args.b c.requires.0 c.requires.1)
 
 returns : tie.Need-returns
 returns c = halves_make 4294967296 c.args.a c.args.b _ _ refl refl

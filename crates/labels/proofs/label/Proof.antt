@@ -33,10 +33,10 @@ returns-else-within : tie.Need-returns-else-within
 returns-else-within c =
     let order = c.within.ensures in
     label_number_is _ _ _
-    (⊎_elim (λ w. is_place_is _ _ _ (sym w.0.taken ∙ order) (sym w.2.taken ∙ w.1.ensures) (sym w.4.left ∙ w.3.ensures))
-    (⊎_elim (λ w. is_place_is _ _ _ (sym w.0.taken ∙ order) (sym w.2.left ∙ w.1.ensures) refl)
-    (λ w. is_place_is _ _ _ (sym w.left ∙ order) refl refl))
-    c.else-within.branch)
+    (⊎_elim (λ w. is_place_is _ _ _ (sym w.if-within.true ∙ order) (sym w.if-within-2.true ∙ w.within-then-within.ensures) (sym w.if-within-3.false ∙ w.within-then-within-2.ensures))
+    (⊎_elim (λ w. is_place_is _ _ _ (sym w.if-within.true ∙ order) (sym w.if-within-2.false ∙ w.within-then-within.ensures) refl)
+    (λ w. is_place_is _ _ _ (sym w.if-within.false ∙ order) refl refl))
+    c.else-within.branch-raw)
 
 pub label_spec : {M : Type 1} → statement M
 label_spec =

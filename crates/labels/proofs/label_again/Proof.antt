@@ -1,7 +1,6 @@
 -- `labels::label_again` gives a label in range back, and 0 for any other.
-use mathlib.Core.Path.{sym, ap, ◌∙◌}
+use mathlib.Core.Path.{ap, ◌∙◌}
 use borrow.Author.Rules.{rules}
-use Rattle.labels.specs.Located.{sought_of}
 use Rattle.labels.proofs.Round.{label_of, label-again}
 use Rattle.labels.proofs.label_again.Statement.{statement}
 use Rattle.labels.proofs.label_again.Tie as tie
@@ -20,12 +19,11 @@ enum_told-1 c = search rules
 
 returns-in-At : tie.Need-returns-in-At
 returns-in-At c =
-    let found = c.place.ensures in
-    c.label.ensures ∙ ap (label_of _) (sym (ap sought_of c.i-1.given.1) ∙ found) ∙ label-again _ _
+    c.label.ensures ∙ ap (label_of _) c.in-At.ensures ∙ label-again _ _
 
 returns-in-Outside : tie.Need-returns-in-Outside
 returns-in-Outside c =
-    ap (label_of _) (sym (ap sought_of c.enum_told-1.given.1) ∙ c.place.ensures) ∙ label-again _ _
+    ap (label_of _) c.in-Outside.ensures ∙ label-again _ _
 
 pub label_again_spec : {M : Type 1} → statement M
 label_again_spec =

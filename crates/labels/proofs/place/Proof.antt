@@ -36,9 +36,9 @@ returns-else-within : tie.Need-returns-else-within
 returns-else-within c =
     let order = c.within.ensures in
     sought_is _ _
-    (⊎_elim (λ w. is_label_is _ _ (sym w.0.taken ∙ order) (sym w.2.left ∙ w.1.ensures))
-    (λ w. is_label_is _ _ (sym w.left ∙ order) refl)
-    c.else-within.branch)
+    (⊎_elim (λ w. is_label_is _ _ (sym w.if-within.true ∙ order) (sym w.if-within-2.false ∙ w.within-then-within.ensures))
+    (λ w. is_label_is _ _ (sym w.if-within.false ∙ order) refl)
+    c.else-within.branch-raw)
 
 pub place_spec : {M : Type 1} → statement M
 place_spec =

@@ -1,5 +1,4 @@
 -- `labels::place_within` finds the batch of a label, and the place there.
-use native.Mathlib.Omega.{arith}
 use mathlib.Core.Path.{sym, ap, ◌∙◌}
 use borrow.Author.Rules.{rules}
 use Rattle.model.specs.Label.{place, at}
@@ -16,7 +15,7 @@ place_in-place-requires c κs = search rules
 
 returns : tie.Need-returns
 returns c =
-    let found = c.IsPlace-in.ensures in
+    let found = c.place_in-place.ensures in
     ap at (sym (place_of_label _ _ _ found.0) ∙ ap (place _) found.1)
 
 pub place_within_spec : {M : Type 1} → statement M

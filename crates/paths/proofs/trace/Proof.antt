@@ -48,7 +48,7 @@ loop-less : tie.Need-loop-trail-smaller invariant-loop-trail decreases-loop-trai
 loop-less c = c.go_on-trail.ensures.less
 
 loop-again : tie.Need-loop-trail-preserved invariant-loop-trail decreases-loop-trail
-loop-again c = turned (entry (head c)).pre.1.0 (head c).loop.invariant c.go_on-trail.ensures
+loop-again c = turned (entry (head c)).requires.1.0 (head c).loop-trail.invariant c.go_on-trail.ensures
 
 overflow_cast-result : tie.Need-overflow_cast-result invariant-loop-trail decreases-loop-trail
 overflow_cast-result c = let h = c.before.before.before in omega (arith, counted (entry h).requires.1.0 h.loop-trail.invariant, (entry h).requires.0.high)

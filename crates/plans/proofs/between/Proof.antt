@@ -4,7 +4,6 @@ use Prim.Native.Nat.{◌-◌, ◌≤◌, ◌<◌}
 use native.Mathlib.Omega.{arith}
 use mathlib.Core.Path.{◌≡◌}
 use borrow.Author.Rules.{rules}
-use borrow.Author.Tests.{not-true, not-false}
 use lib.ListN.{length}
 use Rattle.model.specs.Label.{label}
 use Rattle.model.specs.Fill.{Plan}
@@ -36,35 +35,31 @@ head c = c.before.before.before
 abbrev Here : Plan → tie.Start invariant-loop-left decreases-loop-left → Type 0
 Here L c = let a = c.args in Stands a.n L a.work.now a.rows.now a.columns.now × Filled a.n L a.i a.j
 
-begun : {L : Plan} (c : tie.After-larger-h invariant-loop-left decreases-loop-left) → Here L (entry c) → let a = (entry c).args in
+begun : {L : Plan} (c : tie.After-larger-h invariant-loop-left decreases-loop-left) → Here L (entry c) → let a = c.args in
     (1 ≤ c.larger-h.result) × (c.larger-h.result ≤ middle a.n L a.i a.j)
-begun c p =
-    let l = c.before in
-    start p.0 p.1 l.wide.ensures l.wide-2.ensures l.larger.ensures c.larger-h.ensures
+begun c p = start p.0 p.1 c.wide.ensures c.wide-2.ensures c.larger.ensures c.larger-h.ensures
 
-first : {L : Plan} (c : tie.After-label invariant-loop-left decreases-loop-left) → Here L (entry c.before) → let a = (entry c.before).args in
+first : {L : Plan} (c : tie.After-label invariant-loop-left decreases-loop-left) → Here L (entry c.before) → let a = c.args in
     (c.label.result ≡ label a.n a.i c.larger-h.result) × (1 ≤ c.label.result)
 first c p =
     let b = begun c.before p in
     place-label _ _ _ c.label.ensures p.0.high (pair_inside p.0 p.1 _ b.0 b.1).0
 
-second : {L : Plan} (c : tie.After-label-2 invariant-loop-left decreases-loop-left) → let f = c.before.before.before in Here L (entry f) → let a = (entry f).args in
-    (c.label-2.result ≡ label a.n f.larger-h.result a.j) × (1 ≤ c.label-2.result)
+second : {L : Plan} (c : tie.After-label-2 invariant-loop-left decreases-loop-left) → Here L (entry c.before.before.before) → let a = c.args in
+    (c.label-2.result ≡ label a.n c.larger-h.result a.j) × (1 ≤ c.label-2.result)
 second c p =
     let b = begun c.before.before.before p in
     place-label _ _ _ c.label-2.ensures p.0.high (pair_inside p.0 p.1 _ b.0 b.1).1
 
 -- none at h
-further : {L : Plan} (c : tie.After-wide-left invariant-loop-left decreases-loop-left) → let e = entry (from (head c)) in Here L e → (head c).loop.h < middle e.args.n L e.args.i e.args.j
-further {L} c p =
-    let h = head c in
-    larger p.0 p.1 (h.loop-left.inv L p.0 p.1) c.both_used.ensures (not-true _ c.loop-left-test.true)
+further : {L : Plan} (c : tie.After-wide-left invariant-loop-left decreases-loop-left) → Here L (entry (from (head c))) → let a = c.args in c.loop-left.h < middle a.n L a.i a.j
+further {L} c p = larger p.0 p.1 (c.loop-left.invariant L p.0 p.1) c.both_used.ensures c.loop-left-test.true
 
 -- the plan that is there
 some : (c : tie.Start invariant-loop-left decreases-loop-left) → Here c.requires.plan c
 some c = (c.requires.stands, c.requires.filled)
 
-bounds : (c : tie.At-loop-left invariant-loop-left decreases-loop-left) → let l = c.loop-left in let a = (entry (from c)).args in
+bounds : (c : tie.At-loop-left invariant-loop-left decreases-loop-left) → let l = c.loop-left in let a = c.args in
     (l.low < length a.work.now) × (l.high < length a.work.now) × (l.low < 360000) × (l.high < 360000) × (l.h < a.n) × (a.n ≤ 600)
 bounds c = let p = some (entry (from c)) in indices p.0 p.1 (c.loop-left.invariant _ p.0 p.1)
 
@@ -148,10 +143,10 @@ loop-less : tie.Need-loop-left-smaller invariant-loop-left decreases-loop-left
 loop-less c = omega (arith, bounds (head c))
 
 loop-again : tie.Need-loop-left-preserved invariant-loop-left decreases-loop-left
-loop-again c = λ L stands filled. onward stands filled ((head c).loop.invariant L stands filled) _ c.wide-left.ensures (further c (stands, filled))
+loop-again c = λ L stands filled. onward stands filled (c.loop-left.invariant L stands filled) _ c.wide-left.ensures (further c (stands, filled))
 
 returns : tie.Need-returns invariant-loop-left decreases-loop-left
-returns c = λ L stands filled. found stands filled (c.loop-left.invariant L stands filled) c.both_used.ensures (not-false _ c.loop-left-test.false)
+returns c = λ L stands filled. found stands filled (c.loop-left.invariant L stands filled) c.both_used.ensures c.loop-left-test.false
 
 pub between_spec : {M : Type 1} → statement M
 between_spec =

@@ -4,31 +4,27 @@ use native.Mathlib.Omega.{arith}
 use mathlib.Core.Path.{◌≡◌, sym, ◌∙◌}
 use mathlib.Core.Bool.{true}
 use borrow.Author.Rules.{rules}
-use borrow.Author.Tests.{not-true, not-false}
 use Rattle.model.specs.Label.{is_order}
 use Rattle.model.proofs.Compiles.{orderly-order, orderly-room, orderly-labels}
 use Rattle.plans.proofs.Wanted.{sizes}
 use Rattle.plans.proofs.check.Statement.{statement}
 use Rattle.plans.proofs.check.Tie as tie
 
--- Places of the code: past check 1, with the entry before it; and past check 2.
-abbrev entry : tie.Else-not-within → tie.Start
-entry c = c.before.before.before
-
+-- The place past check 1, before the one past check 2.
 abbrev ordered : tie.Else-work-wide → tie.Else-not-within
 ordered c = c.before.before
 
-in_order : (c : tie.Else-not-within) → is_order (entry c).args.n ≡ true
-in_order c = sym c.within.ensures ∙ not-false _ c.if-not-within.false
+in_order : (c : tie.Else-not-within) → is_order c.args.n ≡ true
+in_order c = sym c.within.ensures ∙ c.if-not-within.false
 
-small : (c : tie.Else-not-within) → let a = (entry c).args in (a.n ≤ 600) × (a.n * a.n ≤ 360000) × (a.each * (a.n * a.n) ≤ 1440000)
-small c = sizes (entry c).requires (in_order c)
+small : (c : tie.Else-not-within) → let a = c.args in (a.n ≤ 600) × (a.n * a.n ≤ 360000) × (a.each * (a.n * a.n) ≤ 1440000)
+small c = sizes c.requires (in_order c)
 
 within-requires : tie.Need-within-requires
 within-requires c κs = search rules
 
 returns-then-not-within : tie.Need-returns-then-not-within
-returns-then-not-within c = sym (orderly-order _ _ _ _ (sym c.within.ensures ∙ not-true _ c.if-not-within.true))
+returns-then-not-within c = sym (orderly-order _ _ _ _ (sym c.within.ensures ∙ c.if-not-within.true))
 
 overflow_mul-wanted : tie.Need-overflow_mul-wanted
 overflow_mul-wanted c = omega (arith, small c)

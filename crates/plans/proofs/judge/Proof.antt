@@ -7,7 +7,6 @@ use native.Mathlib.Omega.{arith}
 use mathlib.Core.Path.{◌≡◌, refl, sym, ap, ◌∙◌}
 use mathlib.Core.Bool.{true}
 use borrow.Author.Rules.{rules}
-use borrow.Author.Tests.{not-true, not-false}
 use lib.ListN.{length, get_or, drop}
 use Rattle.model.specs.Label.{within}
 use Rattle.model.specs.Compile.{judged, bad}
@@ -21,15 +20,9 @@ invariant-loop-k n plan top before₀ k₀ before k = (k ≤ length plan) × (ju
 abbrev decreases-loop-k : tie.decreases-loop-k
 decreases-loop-k n plan top before₀ k₀ before k = length plan - k
 
--- Places of the code: where a label lies in range, with the loop's head and the entry before it.
-abbrev head : tie.Else-not-within invariant-loop-k decreases-loop-k → tie.At-loop-k invariant-loop-k decreases-loop-k
-head c = c.before.before.before.before
-
-abbrev entry : tie.Else-not-within invariant-loop-k decreases-loop-k → tie.Start invariant-loop-k decreases-loop-k
-entry c = (head c).before.before
-
-inside : (c : tie.Else-not-within invariant-loop-k decreases-loop-k) → let a = (entry c).args in within (get_or a.plan.now (head c).loop.k 0) (a.n * a.n) ≡ true
-inside c = sym c.within.ensures ∙ not-false _ c.if-not-within.false
+-- a label lies in range
+inside : (c : tie.Else-not-within invariant-loop-k decreases-loop-k) → let a = c.args in within (get_or a.plan.now c.loop-k.k 0) (a.n * a.n) ≡ true
+inside c = sym c.within.ensures ∙ c.if-not-within.false
 
 overflow_mul-top : tie.Need-overflow_mul-top invariant-loop-k decreases-loop-k
 overflow_mul-top c = let n = c.requires in omega (arith, mul-le-mul {n₂ = 600} {m₂ = 600} n n)
@@ -52,16 +45,15 @@ within-requires c κs = search rules
 returns-then-not-within : tie.Need-returns-then-not-within invariant-loop-k decreases-loop-k
 returns-then-not-within c =
     let l = c.loop-k in
-    let out = sym c.within.ensures ∙ not-true _ c.if-not-within.true in
+    let out = sym c.within.ensures ∙ c.if-not-within.true in
     ap (bad 3) (omega arith) ∙ sym (l.invariant.1 ∙ judged-outside _ _ _ _ c.loop-k-test.true out)
 
 returns-then-x-before : tie.Need-returns-then-x-before invariant-loop-k decreases-loop-k
 returns-then-x-before c =
-    let e = c.before in
-    let l = (head e).loop in
-    let test = e.loop-k-test.true in
+    let l = c.loop-k in
+    let test = c.loop-k-test.true in
     ap (bad 4) (omega arith)
-    ∙ sym (l.inv.1 ∙ judged_fallen _ l.before l.k (entry e).args.plan.now test (inside e) (omega (arith, c.if-x-before.true)))
+    ∙ sym (l.invariant.1 ∙ judged_fallen _ l.before l.k c.args.plan.now test (inside c.before) (omega (arith, c.if-x-before.true)))
 
 overflow_add-k : tie.Need-overflow_add-k invariant-loop-k decreases-loop-k
 overflow_add-k c = omega arith
@@ -71,11 +63,10 @@ loop-less c = omega arith
 
 loop-again : tie.Need-loop-k-preserved invariant-loop-k decreases-loop-k
 loop-again c =
-    let e = c.before in
-    let l = (head e).loop in
-    let test = e.loop-k-test.true in
-    let onward = judged-onward _ l.before l.k (entry e).args.plan.now test (inside e) (omega (arith, c.if-x-before.false)) in
-    (omega arith, rw add-one (l.inv.1 ∙ onward))
+    let l = c.loop-k in
+    let test = c.loop-k-test.true in
+    let onward = judged-onward _ l.before l.k c.args.plan.now test (inside c.before) (omega (arith, c.if-x-before.false)) in
+    (omega arith, rw add-one (l.invariant.1 ∙ onward))
 
 returns-3 : tie.Need-returns invariant-loop-k decreases-loop-k
 returns-3 c = sym (c.loop-k.invariant.1 ∙ judged-end _ _ _ _ (omega arith))

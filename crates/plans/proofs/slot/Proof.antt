@@ -12,29 +12,22 @@ use Rattle.plans.proofs.Wanted.{sizes, places-some, slots-left, zeros-left}
 use Rattle.plans.proofs.slot.Statement.{statement}
 use Rattle.plans.proofs.slot.Tie as tie
 
--- Places of the code: where the places are filled, with the entry before it, and where a pivot is found missing or none.
-abbrev entry : tie.After-fill-filled → tie.Start
-entry c = c.before.before.before.before.before.before.before.before
-
-abbrev gone : tie.Then-filled-ne0 → tie.After-fill-filled
-gone c = c.before.before.before.before.before.before.before.before
-
-abbrev whole : tie.Else-filled-ne0 → tie.After-fill-filled
-whole c = c.before.before.before.before.before.before.before.before
+-- The entry, before a pivot is found missing.
+abbrev entry : tie.Then-filled-ne0 → tie.Start
+entry c = c.before.before.before.before.before.before.before.before.before.before.before.before.before.before.before.before
 
 -- what 1 to 4 tell of the entry
 told : (c : tie.Start) → let a = c.args in
     (is_order a.n ≡ true) × ((judged a.n 0 1 a.plan.now ≡ good) × (a.each * (a.n * a.n) ≤ length a.work.now))
 told c = orderly-good _ _ _ _ c.requires.0
 
-small : (c : tie.Then-filled-ne0) → let a = (entry (gone c)).args in (a.n ≤ 600) × (a.n * a.n ≤ 360000) × (a.each * (a.n * a.n) ≤ 1440000)
-small c = let e = entry (gone c) in sizes e.pre.1.0.1 (told e).0
+small : (c : tie.Then-filled-ne0) → let a = c.args in (a.n ≤ 600) × (a.n * a.n ≤ 360000) × (a.each * (a.n * a.n) ≤ 1440000)
+small c = sizes c.requires.1.0.1 (told (entry c)).0
 
 fill-filled-requires : tie.Need-fill-filled-requires
 fill-filled-requires c κs =
-    let e = c.before.before.before.before.before.before.before in
-    let t = told e in
-    ((t.0, t.1.0), (omega (arith, t.1.1, places-some e.args.each e.args.n e.requires.1.0.0), e.requires.1.1))
+    let t = told c.before.before.before.before.before.before.before in
+    ((t.0, t.1.0), (omega (arith, t.1.1, places-some c.args.each c.args.n c.requires.1.0.0), c.requires.1.1))
 
 overflow_mul-n : tie.Need-overflow_mul-n
 overflow_mul-n c = omega (arith, small c.before)
@@ -46,9 +39,7 @@ wide-requires : tie.Need-wide-requires
 wide-requires c κs = search rules
 
 clear-requires : tie.Need-clear-requires
-clear-requires c κs =
-    let f = gone c.before.before in
-    omega (arith, c.wide.ensures, (told (entry f)).1.1, f.fill-filled.kept)
+clear-requires c κs = omega (arith, c.wide.ensures, (told (entry c.before.before)).1.1, c.fill-filled.auto)
 
 shape_of-work-then-filled-ne0 : tie.Need-shape_of-work-then-filled-ne0
 shape_of-work-then-filled-ne0 c = search rules
@@ -60,12 +51,7 @@ shape_of-columns-then-filled-ne0 : tie.Need-shape_of-columns-then-filled-ne0
 shape_of-columns-then-filled-ne0 c = search rules
 
 returns-then-filled-ne0 : tie.Need-returns-then-filled-ne0
-returns-then-filled-ne0 c =
-    let done = c.before.before in
-    let w = done.before in
-    let t = w.before.before in
-    let f = gone t in
-    zeros-left f.fill-filled.ensures t.if-filled-ne0.true (entry f).pre.1.0.0 w.wide.ensures done.clear.ensures
+returns-then-filled-ne0 c = zeros-left c.fill-filled.ensures c.if-filled-ne0.true c.requires.1.0.0 c.wide.ensures c.clear.ensures
 
 shape_of-work-else-filled-ne0 : tie.Need-shape_of-work-else-filled-ne0
 shape_of-work-else-filled-ne0 c = search rules
@@ -77,7 +63,7 @@ shape_of-columns-else-filled-ne0 : tie.Need-shape_of-columns-else-filled-ne0
 shape_of-columns-else-filled-ne0 c = search rules
 
 returns-else-filled-ne0 : tie.Need-returns-else-filled-ne0
-returns-else-filled-ne0 c = slots-left (whole c).fill.ensures c.if-filled-ne0.false
+returns-else-filled-ne0 c = slots-left c.fill-filled.ensures c.if-filled-ne0.false
 
 pub slot_spec : {M : Type 1} → statement M
 slot_spec =

@@ -26,11 +26,8 @@ decreases-loop-m n work₀ rows₀ columns₀ walk₀ products₀ above₀ missi
 
 -- Places of the code: a turn and the entry before it; where the turn's column is done, its pivot is read and its slices are lent again; where its row is done
 -- too; and where the slots below the pivot are known.
-abbrev start : tie.At-loop-m invariant-loop-m decreases-loop-m → tie.Start invariant-loop-m decreases-loop-m
-start c = c.before.before.before.before
-
 abbrev entry : tie.In-loop-m invariant-loop-m decreases-loop-m → tie.Start invariant-loop-m decreases-loop-m
-entry c = start c.before
+entry c = c.before.before.before.before.before
 
 abbrev Down : Type 0
 Down = tie.After-fill_line-walk invariant-loop-m decreases-loop-m
@@ -64,10 +61,10 @@ plan : (c : tie.Start invariant-loop-m decreases-loop-m) → SomePlan c.args.n c
 plan c = some-plan c.args.n c.args.work.now
 
 abbrev Marking : tie.In-loop-m invariant-loop-m decreases-loop-m → Plan → Type 0
-Marking c L = Marks (entry c).args.n L 0 (entry c).args.work.now
+Marking c L = Marks c.args.n L 0 c.args.work.now
 
 -- in a turn there is a batch m
-in_order : (c : tie.In-loop-m invariant-loop-m decreases-loop-m) → c.loop-m.m ≤ (entry c).args.n
+in_order : (c : tie.In-loop-m invariant-loop-m decreases-loop-m) → c.loop-m.m ≤ c.args.n
 in_order c = omega (arith, c.loop-m-test.true)
 
 loop-holds : tie.Need-loop-m-init invariant-loop-m decreases-loop-m
@@ -80,23 +77,23 @@ fill_line-walk-requires : tie.Need-fill_line-walk-requires invariant-loop-m decr
 fill_line-walk-requires c κs =
     let t = c.before.before.before.before in
     let some = plan (entry t) in
-    let l = t.loop-m.invariant some.plan some.marked in
+    let l = c.loop-m.invariant some.plan some.marked in
     ((sized_again (sized (entry t)) l.size, l.from, in_order t), record { plan = some.plan; reached = l.reached })
 
 -- after a batch's column
-column : (c : Down) (L : Plan) → Marking (turn c) L → let l = (turn c).before.loop in let r = c.fill_line-walk.new.1 in
-    ColumnDone (entry (turn c)).args.n L l.m l.walk c.fill_line-walk.result r.0 r.1.0 r.1.1.0
+column : (c : Down) (L : Plan) → Marking (turn c) L → let l = c.loop-m in let r = c.fill_line-walk.new in
+    ColumnDone c.args.n L l.m l.walk c.fill_line-walk.result r.work r.rows r.columns
 column c L marked =
-    let l = (turn c).before.loop.invariant L marked in
+    let l = c.loop-m.invariant L marked in
     column-done l (in_order (turn c)) (c.fill_line-walk.ensures.reached L l.reached)
 
 -- the work slice is as long as it came, and the pivot's index lies in it
-pivot : (c : Down) → let k = c.wide-pivot.result in let size = length c.fill_line-walk.new.1.0 in
-    (size ≡ length (entry (turn c)).args.work.now) × (k < 360000) × (k < size)
+pivot : (c : Down) → let k = c.wide-pivot.result in let size = length c.fill_line-walk.new.work in
+    (size ≡ length c.args.work.now) × (k < 360000) × (k < size)
 pivot c =
     let e = entry (turn c) in
     let some = plan e in
-    let size = c.fill_line-walk.auto.1.0 ∙ ((turn c).before.loop.invariant some.plan some.marked).size in
+    let size = c.fill_line-walk.auto.work ∙ (c.loop-m.invariant some.plan some.marked).size in
     let inside = (column c some.plan some.marked).inside in
     let s = sized e in
     let at = c.wide-pivot.ensures in
@@ -113,16 +110,15 @@ fill_line-walk-requires-in-loop-m c κs =
     let d = lent c in
     let e = entry (turn d) in
     let some = plan e in
-    let l = (turn d).before.loop.inv some.plan some.marked in
+    let l = c.loop-m.invariant some.plan some.marked in
     ((sized_again (sized e) (pivot d).0, l.from, in_order (turn d)), record { plan = some.plan; reached = (column d some.plan some.marked).turned })
 
 -- after a batch's row
-row : (c : Right) (L : Plan) → let t = turn (down c) in Marking t L → let r = c.fill_line-walk-in-loop-m.new.1 in
-    RowDone (entry t).args.n L t.loop-m.m (down c).fill-line.result c.fill_line-walk-in-loop-m.result r.0 r.1.0 r.1.1.0
+row : (c : Right) (L : Plan) → Marking (turn (down c)) L → let r = c.fill_line-walk-in-loop-m.new in
+    RowDone c.args.n L c.loop-m.m c.fill_line-walk.result c.fill_line-walk-in-loop-m.result r.work r.rows r.columns
 row c L marked =
-    let t = turn (down c) in
     let turned = (column (down c) L marked).turned in
-    row_done (t.loop-m.inv L marked).from (in_order t) turned (c.fill_line-walk-in-loop-m.ensures.reached L turned)
+    row_done (c.loop-m.invariant L marked).from (in_order (turn (down c))) turned (c.fill_line-walk-in-loop-m.ensures.reached L turned)
 
 larger-requires : tie.Need-larger-requires invariant-loop-m decreases-loop-m
 larger-requires c κs = search rules
@@ -130,18 +126,15 @@ larger-requires c κs = search rules
 -- the slots that a batch's column gave below the pivot, and its row
 abbrev Given : Paired → Plan → Type 0
 Given c L =
-    let r = right c in
-    let t = turn (down r) in
-    ((down r).fill-line.result.used ≡ c.larger.result + down_of (entry t).args.n L t.loop-m.m)
-    × (r.fill_line-walk-in-loop-m.result.used ≡ (down r).fill-line.result.used + right_of (entry t).args.n L t.loop-m.m)
+    (c.fill_line-walk.result.used ≡ c.larger.result + down_of c.args.n L c.loop-m.m)
+    × (c.fill_line-walk-in-loop-m.result.used ≡ c.fill_line-walk.result.used + right_of c.args.n L c.loop-m.m)
 
 given : (c : Paired) (L : Plan) → Marking (turn (down (right c))) L → Given c L
 given c L marked =
     let r = right c in
     let d = down r in
-    let t = turn d in
-    let from = rw d.wide-pivot.ensures at c.larger.ensures in
-    (down_given (t.loop-m.inv L marked) (in_order t) (column d L marked) _ from, (row r L marked).given)
+    let from = rw c.wide-pivot.ensures at c.larger.ensures in
+    (down_given (c.loop-m.invariant L marked) (in_order (turn d)) (column d L marked) _ from, (row r L marked).given)
 
 -- those of the plan that is there
 some-given : (c : Paired) → Given c (plan (entry (turn (down (right c))))).plan
@@ -155,44 +148,41 @@ overflow_sub-right c = omega (arith, some-given c.before)
 
 batch_products-products-requires : tie.Need-batch_products-products-requires invariant-loop-m decreases-loop-m
 batch_products-products-requires c κs =
-    let t = turn (down (right c.before)) in
-    let n = (entry t).args.n in
-    let L = (plan (entry t)).plan in
-    let m = t.loop-m.m in
-    let high = (sized (entry t)).high in
+    let e = entry (turn (down (right c.before))) in
+    let n = c.args.n in
+    let L = (plan e).plan in
+    let m = c.loop-m.m in
+    let high = (sized e).high in
     omega (arith, some-given c.before, line-at_most n L high (λ i. held n L i m) m, line-at_most n L high (held n L m) m)
 
 -- what the batch adds
-added : (c : tie.After-batch_products-products invariant-loop-m decreases-loop-m) (L : Plan) → let r = right c.before.before in let t = turn (down r) in Marking t L →
-    (c.batch_products-products.result ≡ batch_products (entry t).args.n L t.loop-m.m)
-    × (r.fill_line-walk-in-loop-m.result.used - (down r).fill-line.result.used ≡ right_of (entry t).args.n L t.loop-m.m)
+added : (c : tie.After-batch_products-products invariant-loop-m decreases-loop-m) (L : Plan) → Marking (turn (down (right c.before.before))) L →
+    (c.batch_products-products.result ≡ batch_products c.args.n L c.loop-m.m)
+    × (c.fill_line-walk-in-loop-m.result.used - c.fill_line-walk.result.used ≡ right_of c.args.n L c.loop-m.m)
 added c L marked =
-    let q = c.before.before in
-    let r = right q in
-    let t = turn (down r) in
-    let n = (entry t).args.n in
-    let m = t.loop-m.m in
-    let g = given q L marked in
-    let below : (down r).fill-line.result.used - q.larger.result ≡ down_of n L m = omega (arith, g.0) in
-    let over : r.fill_line-walk-in-loop-m.result.used - (down r).fill-line.result.used ≡ right_of n L m = omega (arith, g.1) in
+    let n = c.args.n in
+    let m = c.loop-m.m in
+    let g = given c.before.before L marked in
+    let below : c.fill_line-walk.result.used - c.larger.result ≡ down_of n L m = omega (arith, g.0) in
+    let over : c.fill_line-walk-in-loop-m.result.used - c.fill_line-walk.result.used ≡ right_of n L m = omega (arith, g.1) in
     (c.batch_products-products.ensures ∙ ap₂ (λ d r. d * r + d + r) below over, over)
 
 -- the sums stay small
-small : (c : tie.After-batch_products-products invariant-loop-m decreases-loop-m) → let r = right c.before.before in let l = (turn (down r)).loop-m in
+small : (c : tie.After-batch_products-products invariant-loop-m decreases-loop-m) → let l = c.loop-m in
     (l.products + c.batch_products-products.result ≤ 220000000)
-    × (l.above + (r.fill_line-walk-in-loop-m.result.used - (down r).fill-line.result.used) ≤ 400000) × (l.m ≤ 600)
+    × (l.above + (c.fill_line-walk-in-loop-m.result.used - c.fill_line-walk.result.used) ≤ 400000) × (l.m ≤ 600)
 small c =
     let t = turn (down (right c.before.before)) in
-    let n = (entry t).args.n in
+    let n = c.args.n in
     let some = plan (entry t) in
     let L = some.plan in
-    let l = t.loop-m in
+    let l = c.loop-m in
     let high = (sized (entry t)).high in
     omega (
       arith,
       added c L some.marked,
-      (l.inv L some.marked).products-are,
-      (l.inv L some.marked).over-are,
+      (l.invariant L some.marked).products-are,
+      (l.invariant L some.marked).over-are,
       batches_at_most n L high (l.m - 1),
       batch-at_most n L high l.m,
       line-at_most n L high (held n L l.m) l.m,
@@ -219,27 +209,27 @@ loop-again : tie.Need-loop-m-preserved invariant-loop-m decreases-loop-m
 loop-again c = λ L marked.
     let r = right c.before.before.before in
     let d = down r in
-    let l = (turn d).before.loop in
+    let l = c.loop-m in
     let more = added c.before L marked in
-    let size = r.fill_line-walk-in-loop-m.kept.1.0 ∙ (pivot d).0 in
+    let size = c.fill_line-walk-in-loop-m.auto.work ∙ (pivot d).0 in
     rw add-one
-    (pass_next (l.inv L marked) (in_order (turn d)) (column d L marked) d.fill_line-walk.ensures.rest (row r L marked) size r.fill_line-walk-in-loop-m.ensures.rest
+    (pass_next (l.invariant L marked) (in_order (turn d)) (column d L marked) c.fill_line-walk.ensures.rest (row r L marked) size c.fill_line-walk-in-loop-m.ensures.rest
     (ap (λ k. l.products + k) more.0) (ap (λ k. l.above + k) more.1)
-    (rw d.wide-pivot.ensures at c.first_missing-missing.ensures))
+    (rw c.wide-pivot.ensures at c.first_missing-missing.ensures))
 
 -- what the pass came to
-whole : (c : tie.At-loop-m invariant-loop-m decreases-loop-m) → let a = (start c).args in let l = c.loop-m in
-    Passing a.n (plan (start c)).plan a.work.now l.m l.walk l.products l.above l.missing l.work l.rows l.columns
-whole c = let some = plan (start c) in c.loop-m.invariant some.plan some.marked
+whole : (c : tie.At-loop-m invariant-loop-m decreases-loop-m) → let a = c.args in let l = c.loop-m in
+    Passing a.n (plan c.before.before.before.before).plan a.work.now l.m l.walk l.products l.above l.missing l.work l.rows l.columns
+whole c = let some = plan c.before.before.before.before in c.loop-m.invariant some.plan some.marked
 
 shape_of-work : tie.Need-shape_of-work invariant-loop-m decreases-loop-m
 shape_of-work c = (whole c.before).size
 
 shape_of-rows : tie.Need-shape_of-rows invariant-loop-m decreases-loop-m
-shape_of-rows c = (whole c.before).reached.walked.row_count ∙ sym (noted-none (start c.before).pre.1.1.0)
+shape_of-rows c = (whole c.before).reached.walked.row_count ∙ sym (noted-none c.requires.1.1.0)
 
 shape_of-columns : tie.Need-shape_of-columns invariant-loop-m decreases-loop-m
-shape_of-columns c = (whole c.before).reached.walked.column-count ∙ sym (noted-none (start c.before).pre.1.1.1)
+shape_of-columns c = (whole c.before).reached.walked.column-count ∙ sym (noted-none c.requires.1.1.1)
 
 returns : tie.Need-returns invariant-loop-m decreases-loop-m
 returns c = λ L marked. pass_end (c.loop-m.invariant L marked) c.loop-m-test.false

@@ -33,28 +33,16 @@ invariant-loop-t n work₀ rows₀ columns₀ m across walk₀ t₀ work rows co
 abbrev decreases-loop-t : tie.decreases-loop-t
 decreases-loop-t n work₀ rows₀ columns₀ m across walk₀ t₀ work rows columns walk t = suc n - t
 
--- Places of the code: where a turn stands at its place, with the loop's head and the entry before it; where its search starts, and where an h is tried; where
--- the place is settled; and where the empty ones after it are counted.
+-- Places of the code: where a turn stands at its place; where its search starts, and where an h is tried; where the place is settled; and where the empty
+-- ones after it are counted.
 abbrev Turn : Type 0
 Turn = tie.After-column_of-j invariant-loop-h decreases-loop-h invariant-loop-t decreases-loop-t
-
-abbrev head : Turn → tie.At-loop-t invariant-loop-h decreases-loop-h invariant-loop-t decreases-loop-t
-head c = c.before.before.before
-
-abbrev start : tie.At-loop-t invariant-loop-h decreases-loop-h invariant-loop-t decreases-loop-t → tie.Start invariant-loop-h decreases-loop-h invariant-loop-t decreases-loop-t
-start c = c.before.before.before.before.before
-
-abbrev entry : Turn → tie.Start invariant-loop-h decreases-loop-h invariant-loop-t decreases-loop-t
-entry c = start (head c)
 
 abbrev from : tie.After-search_from-h invariant-loop-h decreases-loop-h invariant-loop-t decreases-loop-t → Turn
 from c = c.before.before
 
-abbrev searching : tie.At-loop-h invariant-loop-h decreases-loop-h invariant-loop-t decreases-loop-t → tie.After-search_from-h invariant-loop-h decreases-loop-h invariant-loop-t decreases-loop-t
-searching c = c.before.before.before
-
 abbrev turn : tie.At-loop-h invariant-loop-h decreases-loop-h invariant-loop-t decreases-loop-t → Turn
-turn c = from (searching c)
+turn c = c.before.before.before.before.before
 
 abbrev Settled : Type 0
 Settled = tie.After-settle-walk invariant-loop-h decreases-loop-h invariant-loop-t decreases-loop-t
@@ -63,34 +51,31 @@ abbrev searched : Settled → tie.Joined-m-h invariant-loop-h decreases-loop-h i
 searched c = c.before.before.before.before
 
 abbrev Counting : Type 0
-Counting = tie.After-empty-run-arg3 invariant-loop-h decreases-loop-h invariant-loop-t decreases-loop-t
+Counting = tie.After-slice_known-in-loop-t-3-1 invariant-loop-h decreases-loop-h invariant-loop-t decreases-loop-t
 
 abbrev settled : Counting → Settled
-settled c = c.before.before.before.before.before.before.before.before.before
-
-abbrev place : Counting → Turn
-place c = turn (searched (settled c)).before
+settled c = c.before.before.before.before.before.before
 
 -- the plan that the line's places stand for at the entry
 abbrev Entered : Turn → Plan → Type 0
 Entered c L =
-    let a = (entry c).args in
+    let a = c.args in
     Reached a.n L a.across a.m (first_of a.across a.m) a.walk a.work.now a.rows.now a.columns.now
 
 -- the place of a turn, for such a plan and for the one that is there
 abbrev AtPlace : Turn → Plan → Type 0
 AtPlace c L =
-    let a = (entry c).args in
-    let l = (head c).loop in
+    let a = c.args in
+    let l = c.loop-t in
     Here a.n L a.m c.row_of-i.result c.column_of-j.result l.walk l.work l.rows l.columns
 
 at_place : (c : Turn) (L : Plan) → Entered c L → AtPlace c L
 at_place c L r =
-    let p = (entry c).requires.0 in
-    along_here p.0 p.1 p.2 _ _ ((head c).loop.invariant L r) c.loop-t-test.true c.row_of-i.ensures c.column_of-j.ensures
+    let p = c.requires.0 in
+    along_here p.0 p.1 p.2 _ _ (c.loop-t.invariant L r) c.loop-t-test.true c.row_of-i.ensures c.column_of-j.ensures
 
-here : (c : Turn) → AtPlace c (entry c).requires.1.plan
-here c = at_place c _ (entry c).requires.1.reached
+here : (c : Turn) → AtPlace c c.requires.1.plan
+here c = at_place c _ c.requires.1.reached
 
 first_of-t-requires : tie.Need-first_of-t-requires invariant-loop-h decreases-loop-h invariant-loop-t decreases-loop-t
 first_of-t-requires c κs = omega (arith, c.requires)
@@ -111,8 +96,8 @@ search_from-h-requires : tie.Need-search_from-h-requires invariant-loop-h decrea
 search_from-h-requires c κs = let b = bounds (here c.before) in (b.3, b.4)
 
 -- the pair of a place that is sought
-pairs : (c : tie.After-search_from-h invariant-loop-h decreases-loop-h invariant-loop-t decreases-loop-t) → let t = from c in let a = (entry t).args in let h = c.search_from-h.result in
-    ltb h a.m ≡ true → Inside a.n t.row_of-i.result h × Inside a.n h t.column_of-j.result
+pairs : (c : tie.After-search_from-h invariant-loop-h decreases-loop-h invariant-loop-t decreases-loop-t) → let a = c.args in let h = c.search_from-h.result in
+    ltb h a.m ≡ true → Inside a.n c.row_of-i.result h × Inside a.n h c.column_of-j.result
 pairs c sought =
     let at = here (from c) in
     pair_inside at.inside at.batch _ (start-low at c.is_marked-planned.result c.search_from-h.ensures) (ltb-true _ _ sought)
@@ -129,9 +114,8 @@ loop2-holds c =
     search_begins (here (from f)) f.search_from-h.ensures c.index_of-low.ensures c.index_of-high.ensures
 
 -- where h is tried
-tried : (c : tie.Else-m-h invariant-loop-h decreases-loop-h invariant-loop-t decreases-loop-t) → let l = c.loop-h in let t = turn c.before in
-    (l.low < length (head t).loop.work) × (l.high < length (head t).loop.work) × (l.low < 360000) × (l.high < 360000)
-    × (l.h < (entry t).args.n) × ((entry t).args.n ≤ 600)
+tried : (c : tie.Else-m-h invariant-loop-h decreases-loop-h invariant-loop-t decreases-loop-t) → let l = c.loop-h in let work = c.loop-t.work in
+    (l.low < length work) × (l.high < length work) × (l.low < 360000) × (l.high < 360000) × (l.h < c.args.n) × (c.args.n ≤ 600)
 tried c = indices (here (turn c.before)) c.loop-h.invariant c.if-m-h.false
 
 both_used-requires : tie.Need-both_used-requires invariant-loop-h decreases-loop-h invariant-loop-t decreases-loop-t
@@ -144,8 +128,8 @@ wide-left-requires : tie.Need-wide-left-requires invariant-loop-h decreases-loop
 wide-left-requires c κs = search rules
 
 -- the numbers of the next h
-next : (c : tie.After-wide-left invariant-loop-h decreases-loop-h invariant-loop-t decreases-loop-t) → let s = c.before.before.before.before.before in let l = s.loop-h in let t = turn s in
-    (c.wide-left.result ≡ (entry t).args.n - l.h) × (c.wide-left.result ≤ 600) × (1 ≤ c.wide-left.result) × (l.low < 360000) × (l.high < 360000) × (l.h < 600)
+next : (c : tie.After-wide-left invariant-loop-h decreases-loop-h invariant-loop-t decreases-loop-t) → let l = c.loop-h in
+    (c.wide-left.result ≡ c.args.n - l.h) × (c.wide-left.result ≤ 600) × (1 ≤ c.wide-left.result) × (l.low < 360000) × (l.high < 360000) × (l.h < 600)
 next c = omega (arith, tried c.before.before.before, c.wide-left.ensures)
 
 overflow_add-low : tie.Need-overflow_add-low invariant-loop-h decreases-loop-h invariant-loop-t decreases-loop-t
@@ -171,20 +155,18 @@ loop2-less c = omega (arith, c.if-m-h.false)
 
 loop2-again : tie.Need-loop-h-preserved invariant-loop-h decreases-loop-h invariant-loop-t decreases-loop-t
 loop2-again c =
-    let e = c.before.before.before.before in
-    let s = e.before in
     rw add-one
-    (search_onward (here (turn s)) s.loop-h.invariant e.if-m-h.false _ c.both_used.ensures c.if-both_used.false c.wide-left.ensures)
+    (search_onward (here (turn c.before.before.before.before)) c.loop-h.invariant c.if-m-h.false _ c.both_used.ensures c.if-both_used.false c.wide-left.ensures)
 
 -- it is known whether the place is held
-known : (c : tie.Joined-m-h invariant-loop-h decreases-loop-h invariant-loop-t decreases-loop-t) (L : Plan) → let t = turn c.before in Entered t L →
-    c.if-m-h.held ≡ held (entry t).args.n L t.row_of-i.result t.column_of-j.result
+known : (c : tie.Joined-m-h invariant-loop-h decreases-loop-h invariant-loop-t decreases-loop-t) (L : Plan) → Entered (turn c.before) L →
+    c.if-m-h.held ≡ held c.args.n L c.row_of-i.result c.column_of-j.result
 known c L r =
     let at = at_place (turn c.before) L r in
     let s = c.loop-h.invariant in
-    let all = held_by_work at (searching c.before).before.before.before.is-marked.ensures in
-    ⊎_elim (λ w. w.1 ∙ search_ended at s w.0.taken ∙ sym all)
-    (λ w. w.4 ∙ search_found at s w.0.left w.2.ensures w.3.taken ∙ sym all) c.if-m-h.branch
+    let all = held_by_work at c.is_marked-planned.ensures in
+    ⊎_elim (λ w. w.held-is ∙ search_ended at s w.if-m-h.true ∙ sym all)
+    (λ w. w.held-is ∙ search_found at s w.if-m-h.false w.both_used.ensures w.if-both_used.true ∙ sym all) c.if-m-h.branch-raw
 
 settle-walk-requires : tie.Need-settle-walk-requires invariant-loop-h decreases-loop-h invariant-loop-t decreases-loop-t
 settle-walk-requires c κs =
@@ -194,35 +176,33 @@ settle-walk-requires c κs =
 -- the place is done
 abbrev Done : Settled → Plan → Type 0
 Done c L =
-    let t = turn (searched c).before in
-    let a = (entry t).args in
+    let a = c.args in
     let s = c.settle-walk in
-    Along a.n L a.work.now a.across a.m (suc (head t).loop.t) s.result s.new.0 s.new.1.0 s.new.1.1.0
+    Along a.n L a.work.now a.across a.m (suc c.loop-t.t) s.result s.new.work s.new.rows s.new.columns
 
 after : (c : Settled) (L : Plan) → Entered (turn (searched c).before) L → Done c L
 after c L r =
-    let t = turn (searched c).before in
-    let p = (entry t).pre.0 in
-    along_next p.0 p.1 p.2 ((head t).loop.inv L r) t.loop-t-test.taken t.row_of-i.ensures t.column_of-j.ensures
+    let p = c.requires.0 in
+    along_next p.0 p.1 p.2 (c.loop-t.invariant L r) c.loop-t-test.true c.row_of-i.ensures c.column_of-j.ensures
     (known (searched c) L r) c.settle-walk.ensures
 
-done : (c : Settled) → Done c (entry (turn (searched c).before)).pre.1.plan
-done c = after c _ (entry (turn (searched c).before)).pre.1.reached
+done : (c : Settled) → Done c c.requires.1.plan
+done c = after c _ c.requires.1.reached
 
 overflow_add-t : tie.Need-overflow_add-t invariant-loop-h decreases-loop-h invariant-loop-t decreases-loop-t
-overflow_add-t c = omega (arith, (place c).before.before.loop-test.true, (entry (place c)).pre)
+overflow_add-t c = omega (arith, c.loop-t-test.true, c.requires)
 
 empty_run-empty-requires : tie.Need-empty_run-empty-requires invariant-loop-h decreases-loop-h invariant-loop-t decreases-loop-t
 empty_run-empty-requires c κs =
-    let p = (entry (place c)).pre.0 in
+    let p = c.requires.0 in
     let room = along_room p.0 p.1 p.2 (done (settled c)) in
-    (omega (arith, (place c).before.before.loop-test.true), p.0.high, room.2, room.3, omega (arith, room.1))
+    (omega (arith, c.loop-t-test.true), p.0.high, room.2, room.3, omega (arith, room.1))
 
 -- the places passed over are on the line
-passed : (c : tie.After-struct_known-1 invariant-loop-h decreases-loop-h invariant-loop-t decreases-loop-t) → let t = place c.before.before in let r = c.empty_run-empty.result in
-    ((head t).loop.t + 1 + r ≤ suc (entry t).args.n) × ((settled c.before.before).settle.result.done + r ≤ 360000) × ((entry t).args.n ≤ 600)
+passed : (c : tie.After-struct_known-1 invariant-loop-h decreases-loop-h invariant-loop-t decreases-loop-t) → let r = c.empty_run-empty.result in
+    (c.loop-t.t + 1 + r ≤ suc c.args.n) × (c.settle-walk.result.done + r ≤ 360000) × (c.args.n ≤ 600)
 passed c =
-    let p = (entry (place c.before.before)).pre.0 in
+    let p = c.requires.0 in
     omega (arith, (along_room p.0 p.1 p.2 (done (settled c.before.before))).0, c.empty_run-empty.ensures.inside, p.0.high)
 
 overflow_add-walk : tie.Need-overflow_add-walk invariant-loop-h decreases-loop-h invariant-loop-t decreases-loop-t
@@ -239,24 +219,23 @@ loop-less c = omega (arith, passed c)
 
 loop-again : tie.Need-loop-t-preserved invariant-loop-h decreases-loop-h invariant-loop-t decreases-loop-t
 loop-again c = λ L r.
-    let t = place c.before.before in
-    let p = (entry t).pre.0 in
-    let e : (head t).loop.t + (c.empty_run-empty.result + 1) ≡ suc (head t).loop.t + c.empty_run-empty.result = omega arith in
+    let p = c.requires.0 in
+    let e : c.loop-t.t + (c.empty_run-empty.result + 1) ≡ suc c.loop-t.t + c.empty_run-empty.result = omega arith in
     rw e (along_run p.0 p.1 p.2 _ (after (settled c.before.before) L r) (rw add-one at c.empty_run-empty.ensures))
 
 -- what the line's places came to
-whole : (c : tie.At-loop-t invariant-loop-h decreases-loop-h invariant-loop-t decreases-loop-t) → let a = (start c).args in let l = c.loop-t in
-    Along a.n (start c).requires.1.plan a.work.now a.across a.m l.t l.walk l.work l.rows l.columns
-whole c = c.loop-t.invariant _ (start c).requires.1.reached
+whole : (c : tie.At-loop-t invariant-loop-h decreases-loop-h invariant-loop-t decreases-loop-t) → let a = c.args in let l = c.loop-t in
+    Along a.n c.requires.1.plan a.work.now a.across a.m l.t l.walk l.work l.rows l.columns
+whole c = c.loop-t.invariant _ c.requires.1.reached
 
 shape_of-work : tie.Need-shape_of-work invariant-loop-h decreases-loop-h invariant-loop-t decreases-loop-t
 shape_of-work c = (whole c.before).size
 
 shape_of-rows : tie.Need-shape_of-rows invariant-loop-h decreases-loop-h invariant-loop-t decreases-loop-t
-shape_of-rows c = (whole c.before).reached.walked.row_count ∙ sym (start c.before).pre.1.reached.walked.row_count
+shape_of-rows c = (whole c.before).reached.walked.row_count ∙ sym c.requires.1.reached.walked.row_count
 
 shape_of-columns : tie.Need-shape_of-columns invariant-loop-h decreases-loop-h invariant-loop-t decreases-loop-t
-shape_of-columns c = (whole c.before).reached.walked.column-count ∙ sym (start c.before).pre.1.reached.walked.column-count
+shape_of-columns c = (whole c.before).reached.walked.column-count ∙ sym c.requires.1.reached.walked.column-count
 
 returns : tie.Need-returns invariant-loop-h decreases-loop-h invariant-loop-t decreases-loop-t
 returns c = record { reached = λ L r. along_end (c.loop-t.invariant L r) c.loop-t-test.false; rest = (whole c.before).rest }

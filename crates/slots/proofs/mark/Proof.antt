@@ -42,12 +42,12 @@ few c = omega (arith, plan-length _ _ (entry c).requires.1.0, (square (entry c))
 
 -- what clearing leaves
 zeros : (c : tie.After-clear invariant-loop-k decreases-loop-k) → let a = c.args in
-    c.clear.new.0 ≡ replicate (a.n * a.n) 0 ++ drop (a.n * a.n) a.work.now
+    c.clear.new.work ≡ replicate (a.n * a.n) 0 ++ drop (a.n * a.n) a.work.now
 zeros c = rw c.wide.ensures at c.clear.ensures
 
 -- the work slice is as long as it came
 sizes : (c : tie.At-loop-k invariant-loop-k decreases-loop-k) → length c.loop-k.work ≡ length (start c).args.work.now
-sizes c = c.loop-k.invariant.0.size ∙ c.clear.auto.0
+sizes c = c.loop-k.invariant.0.size ∙ c.clear.auto.work
 
 -- its index
 index : (c : tie.After-wide-in-loop-k invariant-loop-k decreases-loop-k) → let t = c.before.before in let k = c.wide-in-loop-k.result in
@@ -107,7 +107,7 @@ loop-again c =
     let l = label t in
     let k = t.loop-k.k in
     let plan = (entry t).args.plan.now in
-    let cleared = t.clear.auto.0 in
+    let cleared = t.clear.auto.work in
     let label-more = take-suc plan k 0 (omega arith) in
     let place : suc (length (take k plan)) ≡ k + 1 = omega (arith, length-take-le k plan i.1) in
     let new = label_new _ plan k (entry t).requires.1.0 (omega arith) in

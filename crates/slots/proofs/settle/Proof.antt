@@ -6,13 +6,6 @@ use borrow.Author.Rules.{rules}
 use Rattle.slots.proofs.settle.Statement.{statement}
 use Rattle.slots.proofs.settle.Tie as tie
 
--- Places of the code: the entry before a place that is taken, and where its slot is written.
-abbrev Taken : Type 0
-Taken = tie.After-slice_known-then-held-2-1
-
-abbrev slotted : Taken → tie.After-wide
-slotted c = c.before.before.before.before.before.before.before.before
-
 overflow_add-work : tie.Need-overflow_add-work
 overflow_add-work c = search rules
 
@@ -51,12 +44,12 @@ shape_of-columns c = search rules
 
 returns-then-held : tie.Need-returns-then-held
 returns-then-held c =
-    let a = (slotted c).before.before.before.before.before.args in
-    let taken = (slotted c).before.if1.true in
+    let a = c.args in
+    let taken = c.if-held.true in
     record {
       done = omega arith;
       used = rw taken (omega arith);
-      written = rw (taken, (slotted c).wide.ensures) (ap (λ slot. set a.work.now a.walk.done slot) (omega arith));
+      written = rw (taken, c.wide.ensures) (ap (λ slot. set a.work.now a.walk.done slot) (omega arith));
       noted-row = record { noted = rw taken c.note.ensures };
       noted-column = record { noted = rw taken c.note-then-held.ensures };
     }

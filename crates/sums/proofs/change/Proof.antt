@@ -1,7 +1,6 @@
 -- `sums::change` carries a word on through the row. The invariant: the row, and carry at the index i, are the row at entry and word at the index at;
 -- carry starts as the whole word, so an index past the end is no case of its own. The measure is the words left.
-use Rattle.std.proofs.Common.{◌≡◌, ◌-◌, ◌*◌, ◌^◌, length, refl, ap, arith, length-set, rules, eqb-true}
-use borrow.Author.Tests.{not-false}
+use Rattle.std.proofs.Common.{◌≡◌, ◌-◌, ◌*◌, ◌^◌, length, refl, ap, arith, length-set, rules}
 use Rattle.model.specs.Residual.{joined64}
 use Rattle.sums.specs.Added.{Carrying}
 use Rattle.sums.proofs.Carry.{start, carry_on, carried_over, row-changed}
@@ -54,8 +53,7 @@ returns-else-carry-ne0 : tie.Need-returns-else-carry-ne0 invariant-loop-i decrea
 returns-else-carry-ne0 c =
     let l = c.loop-i in
     let a = c.args in
-    let none = eqb-true l.carry 0 (not-false _ c.if-carry-ne0.false) in
-    row-changed a.minus a.words.now l.words _ _ 0 l.invariant.0 (omega (arith, ap (λ k. k * 2 ^ (64 * l.i)) none)) l.invariant.1
+    row-changed a.minus a.words.now l.words _ _ 0 l.invariant.0 (omega (arith, ap (λ k. k * 2 ^ (64 * l.i)) c.if-carry-ne0.false)) l.invariant.1
 
 shape_of-words-after-loop-i : tie.Need-shape_of-words-after-loop-i invariant-loop-i decreases-loop-i
 shape_of-words-after-loop-i c = search rules

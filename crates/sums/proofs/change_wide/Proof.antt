@@ -61,7 +61,7 @@ returns c =
     let last = c.before.before in
     let three = last.before.before.before.before in
     let a = three.args in
-    changed_on a.minus a.words.now three.change_three-carry.new.0 last.change.new.0 _ _ _
+    changed_on a.minus a.words.now three.change_three-carry.new.words last.change.new.words _ _ _
     (three_words a.wide.low a.wide.high a.shift) (omega arith)
     three.change_three-carry.ensures last.change.ensures
 

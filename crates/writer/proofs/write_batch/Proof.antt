@@ -12,22 +12,12 @@ use Rattle.writer.proofs.Line.{number-here, forward-none, place_bounds, batch-pa
 use Rattle.writer.proofs.write_batch.Statement.{statement}
 use Rattle.writer.proofs.write_batch.Tie as tie
 
--- Places of the code: where y(m) is written, where its words begin, where the column is written and where the pivot is read, each seen from the next; and
--- the entry.
-abbrev entry : tie.After-wide → tie.Start
-entry c = c.before.before.before.before.before.before
-
-abbrev read : tie.After-write_line-column → tie.After-wide
-read c = c.before.before.before
-
-abbrev column : tie.After-wide-start → tie.After-write_line-column
-column c = c.before.before.before
+-- Places of the code: where y(m) is written, where its words begin and where the pivot is read, each seen from the next.
+abbrev read : tie.After-wide-start → tie.After-wide
+read c = c.before.before.before.before.before.before
 
 abbrev begun : tie.After-write_forward-after → tie.After-wide-start
 begun c = c.before.before.before.before
-
-abbrev forward : tie.After-write_line → tie.After-write_forward-after
-forward c = c.before.before.before.before
 
 wide-requires : tie.Need-wide-requires
 wide-requires c κs = search rules
@@ -37,22 +27,22 @@ offset_bounds-work-wide c = search rules
 
 bounds-work-wide : tie.Need-bounds-work-wide
 bounds-work-wide c =
-    let p = (entry c.before).requires in
+    let p = c.requires in
     omega (arith, place_bounds p.0 p.1.0 p.1.1.0)
 
 -- what is read is the pivot's work number
-pivot_is : (c : tie.After-wide) → let a = (entry c).args in get_or a.work.now c.wide.result 0 ≡ number_at a.n a.work.now a.m a.m
-pivot_is c = sym (number-here _ _ _ _ _ (ap suc c.wide.ensures ∙ (entry c).requires.1.1.0.here))
+pivot_is : (c : tie.After-wide) → let a = c.args in get_or a.work.now c.wide.result 0 ≡ number_at a.n a.work.now a.m a.m
+pivot_is c = sym (number-here _ _ _ _ _ (ap suc c.wide.ensures ∙ c.requires.1.1.0.here))
 
 write_line-column-requires : tie.Need-write_line-column-requires
 write_line-column-requires c κs =
-    let p = (entry c.before.before).requires in
+    let p = c.requires in
     (p.0, (p.1.0, (refl, (p.1.1.0, first-room (batch-parts _ _ _ _) p.1.1.1))))
 
 -- after the column there is room for y(m)
-forward-room : (c : tie.After-wide-start) → let a = (entry (read (column c))).args in let w = (column c).write-line in
-    Room 0 w.result.next (y_at a.n a.work.now a.m) w.last.1.1.1.1.1.0
-forward-room c = second_room (batch-parts _ _ _ _) (entry (read (column c))).requires.1.1.1 (column c).write-line.ensures.0
+forward-room : (c : tie.After-wide-start) → let a = c.args in let w = c.write_line-column in
+    Room 0 w.result.next (y_at a.n a.work.now a.m) w.new.words
+forward-room c = second_room (batch-parts _ _ _ _) c.requires.1.1.1 c.write_line-column.ensures.0
 
 wide-start-requires : tie.Need-wide-start-requires
 wide-start-requires c κs = search rules
@@ -85,22 +75,19 @@ write_forward-after-requires : tie.Need-write_forward-after-requires
 unfolding y_at
 write_forward-after-requires c κs =
     let b = c.before.before.before in
-    let r = read (column b) in
-    let p = (entry r).pre in
+    let p = c.requires in
     let none = forward-none p.0 _ _ _ p.1.0 c.wide-2.ensures refl in
-    (p.0.covers, (p.1.0, (pivot_is r, (none, lent_room (ap (◌*◌ 4) b.wide-start.ensures) (forward-room b)))))
+    (p.0.covers, (p.1.0, (pivot_is (read b), (none, lent_room (ap (◌*◌ 4) c.wide-start.ensures) (forward-room b)))))
 
 write_line-requires : tie.Need-write_line-requires
 unfolding y_at
 write_line-requires c κs =
-    let f = c.before.before.before in
-    let b = begun f in
-    let w = (column b).write-line in
-    let r = read (column b) in
-    let p = (entry r).pre in
-    let forward-written = lent_back (ap (◌*◌ 4) b.wide-start.ensures) f.write_forward-after.ensures in
+    let b = begun c.before.before.before in
+    let w = c.write_line-column in
+    let p = c.requires in
+    let forward-written = lent_back (ap (◌*◌ 4) c.wide-start.ensures) c.write_forward-after.ensures in
     let room = fourth_room (batch-parts _ _ _ _) p.1.1.1 w.ensures.0 forward-written wrote_none in
-    (p.0, (p.1.0, (pivot_is r, (turned p.1.0 _ w.ensures.1, room))))
+    (p.0, (p.1.0, (pivot_is (read b), (turned p.1.0 _ w.ensures.1, room))))
 
 shape_of-words : tie.Need-shape_of-words
 shape_of-words c = search rules
@@ -108,13 +95,10 @@ shape_of-words c = search rules
 returns : tie.Need-returns
 unfolding y_at
 returns c =
-    let row = c.before.before in
-    let f = forward row in
-    let b = begun f in
-    let p = (entry (read (column b))).requires in
-    let forward-written = lent_back (ap (◌*◌ 4) b.wide-start.ensures) f.write_forward-after.ensures in (
-      parts-written (batch-parts _ _ _ _) p.1.1.1 (column b).write-line.ensures.0 forward-written wrote_none row.write_line.ensures.0,
-      onward p.1.0 row.write_line.ensures.1,
+    let p = c.requires in
+    let forward-written = lent_back (ap (◌*◌ 4) c.wide-start.ensures) c.write_forward-after.ensures in (
+      parts-written (batch-parts _ _ _ _) p.1.1.1 c.write_line-column.ensures.0 forward-written wrote_none c.write_line.ensures.0,
+      onward p.1.0 c.write_line.ensures.1,
     )
 
 pub write_batch_spec : {M : Type 1} → statement M

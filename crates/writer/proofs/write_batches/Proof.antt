@@ -17,21 +17,13 @@ invariant-loop-m n plan work rows columns words₀ at₀ m₀ words at m = Risin
 abbrev decreases-loop-m : tie.decreases-loop-m
 decreases-loop-m n plan work rows columns words₀ at₀ m₀ words at m = suc n - m
 
--- Places of the code: the entry, seen from the loop's head.
-abbrev entry : tie.At-loop-m invariant-loop-m decreases-loop-m → tie.Start invariant-loop-m decreases-loop-m
-entry c = c.before.before.before.before.before.before
-
 loop-holds : tie.Need-loop-m-init invariant-loop-m decreases-loop-m
-loop-holds c =
-    let start = c.before.before.before.before.before in
-    (rising_starts start.requires.1, record { here = sym (label-first _); passed = sym (passed_none _ _ start.requires.0.rises) })
+loop-holds c = (rising_starts c.requires.1, record { here = sym (label-first _); passed = sym (passed_none _ _ c.requires.0.rises) })
 
 write_batch-at-requires : tie.Need-write_batch-at-requires invariant-loop-m decreases-loop-m
 write_batch-at-requires c κs =
-    let head = c.before.before in
-    let start = entry head in
-    let loop = head.loop-m in
-    (start.pre.0, (omega arith, (loop.invariant.1, rising-room loop.invariant.0 (omega arith))))
+    let loop = c.loop-m in
+    (c.requires.0, (omega arith, (loop.invariant.1, rising-room loop.invariant.0 (omega arith))))
 
 overflow_add-m : tie.Need-overflow_add-m invariant-loop-m decreases-loop-m
 overflow_add-m c = omega arith
@@ -49,7 +41,7 @@ returns : tie.Need-returns invariant-loop-m decreases-loop-m
 returns c = rising-ends c.loop-m.invariant.0 (omega arith)
 
 shape_of-words : tie.Need-shape_of-words invariant-loop-m decreases-loop-m
-shape_of-words c = wrote_length (entry c.before).pre.1 (returns c)
+shape_of-words c = wrote_length c.requires.1 (returns c)
 
 pub write_batches_spec : {M : Type 1} → statement M
 write_batches_spec =

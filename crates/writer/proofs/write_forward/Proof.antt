@@ -5,54 +5,31 @@ use Rattle.writer.proofs.Formulas.{forward-parts}
 use Rattle.writer.proofs.write_forward.Statement.{statement}
 use Rattle.writer.proofs.write_forward.Tie as tie
 
--- Places of the code: where y(m) is divided, reduced and opened, each seen from the next; and the entry.
-abbrev entry : tie.After-put-opened → tie.Start
-entry c = c.before.before.before.before
-
-abbrev opened : tie.After-write_left-reduced → tie.After-put-opened
-opened c = c.before.before.before.before
-
-abbrev reduced : tie.After-divide-divided → tie.After-write_left-reduced
-reduced c = c.before.before.before.before
-
-abbrev divided : tie.After-put → tie.After-divide-divided
-divided c = c.before.before.before.before
-
 put-opened-requires : tie.Need-put-opened-requires
 put-opened-requires c κs = first-room (forward-parts _ _ _ _ c.requires.1.1.0) c.requires.1.1.1.1
 
 write_left-reduced-requires : tie.Need-write_left-reduced-requires
 write_left-reduced-requires c κs =
-    let o = c.before.before.before in
-    let p = (entry o).requires in
-    (p.0, (p.1.0, (p.1.1.1.0, second_room (forward-parts _ _ _ _ p.1.1.0) p.1.1.1.1 o.put-opened.ensures)))
+    let p = c.requires in
+    (p.0, (p.1.0, (p.1.1.1.0, second_room (forward-parts _ _ _ _ p.1.1.0) p.1.1.1.1 c.put-opened.ensures)))
 
 divide-divided-requires : tie.Need-divide-divided-requires
 divide-divided-requires c κs =
-    let r = c.before.before.before in
-    let o = opened r in
-    let p = (entry o).pre in
-    third_room (forward-parts _ _ _ _ p.1.1.0) p.1.1.1.1 o.put-opened.ensures r.write_left-reduced.ensures
+    let p = c.requires in
+    third_room (forward-parts _ _ _ _ p.1.1.0) p.1.1.1.1 c.put-opened.ensures c.write_left-reduced.ensures
 
 put-requires-2 : tie.Need-put-requires
 put-requires-2 c κs =
-    let d = c.before.before.before in
-    let r = reduced d in
-    let o = opened r in
-    let p = (entry o).pre in
-    fourth_room (forward-parts _ _ _ _ p.1.1.0) p.1.1.1.1 o.put-opened.ensures r.write_left-reduced.ensures d.divide-divided.ensures
+    let p = c.requires in
+    fourth_room (forward-parts _ _ _ _ p.1.1.0) p.1.1.1.1 c.put-opened.ensures c.write_left-reduced.ensures c.divide-divided.ensures
 
 shape_of-rest : tie.Need-shape_of-rest
 shape_of-rest c = search rules
 
 returns : tie.Need-returns
 returns c =
-    let closed = c.before.before in
-    let d = divided closed in
-    let r = reduced d in
-    let o = opened r in
-    let p = (entry o).pre in
-    parts-written (forward-parts _ _ _ _ p.1.1.0) p.1.1.1.1 o.put-opened.ensures r.write_left-reduced.ensures d.divide-divided.ensures closed.put.ensures
+    let p = c.requires in
+    parts-written (forward-parts _ _ _ _ p.1.1.0) p.1.1.1.1 c.put-opened.ensures c.write_left-reduced.ensures c.divide-divided.ensures c.put.ensures
 
 pub write_forward_spec : {M : Type 1} → statement M
 write_forward_spec =

@@ -20,12 +20,9 @@ invariant-loop-h n work rest₀ first k i j from end next₀ h₀ across₀ down
 abbrev decreases-loop-h : tie.decreases-loop-h
 decreases-loop-h n work rest₀ first k i j from end next₀ h₀ across₀ down₀ rest next h across down = end - h
 
--- Places of the code: a turn, seen from its end, and the entry, seen from the loop's head.
+-- Places of the code: a turn, seen from its end.
 abbrev Turn : Type 0
 Turn = tie.In-loop-h invariant-loop-h decreases-loop-h
-
-abbrev entry : tie.At-loop-h invariant-loop-h decreases-loop-h → tie.Start invariant-loop-h decreases-loop-h
-entry c = c.before.before.before.before.before.before.before.before.before
 
 abbrev turn : tie.After-wide-step invariant-loop-h decreases-loop-h → Turn
 turn c = c.before.before.before.before.before.before.before
@@ -50,23 +47,18 @@ wide-down-requires c κs = search rules
 
 loop-holds : tie.Need-loop-h-init invariant-loop-h decreases-loop-h
 loop-holds c =
-    let lowest = c.before.before.before.before in
-    let p = lowest.requires in (
-      lowest.smaller-end.ensures,
-      rw lowest.larger-h.ensures (rising-skips _ p.1.1.0 p.1.1.1),
+    let p = c.requires in (
+      c.smaller-end.ensures,
+      rw c.larger-h.ensures (rising-skips _ p.1.1.0 p.1.1.1),
       (λ below. c.wide-across.ensures ∙ (c.label.ensures ∙ label-answered _ _ _ p.0.high (omega arith))),
       λ below. c.wide-down.ensures ∙ (c.label-2.ensures ∙ label-answered _ _ _ p.0.high (omega arith)),
     )
 
-row : (c : Turn) → let a = (entry c.before).args in let l = c.loop-h in Stands a.n a.work.now a.i l.h l.across
-row c =
-    let start = entry c.before in
-    stands start.pre.0 (omega arith) (c.loop-h.invariant.2 c.loop-h-test.true)
+row : (c : Turn) → let a = c.args in let l = c.loop-h in Stands a.n a.work.now a.i l.h l.across
+row c = stands c.requires.0 (omega arith) (c.loop-h.invariant.2 c.loop-h-test.true)
 
-column : (c : Turn) → let a = (entry c.before).args in let l = c.loop-h in Stands a.n a.work.now l.h a.j l.down
-column c =
-    let start = entry c.before in
-    stands start.pre.0 (omega arith) (c.loop-h.invariant.3 c.loop-h-test.true)
+column : (c : Turn) → let a = c.args in let l = c.loop-h in Stands a.n a.work.now l.h a.j l.down
+column c = stands c.requires.0 (omega arith) (c.loop-h.invariant.3 c.loop-h-test.true)
 
 overflow_sub-across : tie.Need-overflow_sub-across invariant-loop-h decreases-loop-h
 overflow_sub-across c = omega (arith, row c.before)
@@ -89,7 +81,7 @@ bounds-work-down c = omega (arith, column c.before.before.before)
 subtract-next-requires : tie.Need-subtract-next-requires invariant-loop-h decreases-loop-h
 subtract-next-requires c κs =
     let t = c.before.before.before in
-    rw (inner-at (row t) (column t)) at (rising-room t.loop-h.invariant.1 (omega arith))
+    rw (inner-at (row t) (column t)) at (rising-room c.loop-h.invariant.1 (omega arith))
 
 overflow_sub-n : tie.Need-overflow_sub-n invariant-loop-h decreases-loop-h
 overflow_sub-n c = omega arith
@@ -118,9 +110,9 @@ loop-less c = omega arith
 loop-again : tie.Need-loop-h-preserved invariant-loop-h decreases-loop-h
 loop-again c =
     let t = turn c in
-    let loop = t.loop-h in (
-      loop.inv.0,
-      rising-more loop.inv.1 (omega arith) (rw (← inner-at (row t) (column t)) at c.subtract-next.ensures),
+    let loop = c.loop-h in (
+      loop.invariant.0,
+      rising-more loop.invariant.1 (omega arith) (rw (← inner-at (row t) (column t)) at c.subtract-next.ensures),
       (λ below. label_across _ _ _ _ _ (row t).is c.wide-step.ensures (omega arith) (omega arith) (omega arith)),
       λ below. label_downward _ _ _ _ _ (column t).is c.wide-step.ensures (omega arith) (omega arith) (omega arith),
     )
@@ -129,7 +121,7 @@ returns : tie.Need-returns invariant-loop-h decreases-loop-h
 returns c = rising-ends c.loop-h.invariant.1 (omega arith)
 
 shape_of-rest : tie.Need-shape_of-rest invariant-loop-h decreases-loop-h
-shape_of-rest c = wrote_length (entry c.before).pre.1.1.1 (returns c)
+shape_of-rest c = wrote_length c.requires.1.1.1 (returns c)
 
 pub write_inner_spec : {M : Type 1} → statement M
 write_inner_spec =

@@ -20,12 +20,9 @@ invariant-loop-h n work rest₀ first k kind m from next₀ h₀ across₀ rest 
 abbrev decreases-loop-h : tie.decreases-loop-h
 decreases-loop-h n work rest₀ first k kind m from next₀ h₀ across₀ rest next h across = m - h
 
--- Places of the code: a turn, seen from its end, and the entry, seen from the loop's head.
+-- Places of the code: a turn, seen from its end.
 abbrev Turn : Type 0
 Turn = tie.In-loop-h invariant-loop-h decreases-loop-h
-
-abbrev entry : tie.At-loop-h invariant-loop-h decreases-loop-h → tie.Start invariant-loop-h decreases-loop-h
-entry c = c.before.before.before.before.before.before
 
 abbrev turn : tie.After-wide invariant-loop-h decreases-loop-h → Turn
 turn c = c.before.before.before.before.before.before
@@ -40,14 +37,13 @@ wide-across-requires : tie.Need-wide-across-requires invariant-loop-h decreases-
 wide-across-requires c κs = search rules
 
 loop-holds : tie.Need-loop-h-init invariant-loop-h decreases-loop-h
-loop-holds c =
-    let start = c.before.before.before.before.before in (
-      rw c.larger-h.ensures (rising-skips _ start.requires.1.1.0 start.requires.1.1.1),
-      λ below. c.wide-across.ensures ∙ (c.label.ensures ∙ label-answered _ _ _ start.requires.0.high (omega arith)),
-    )
+loop-holds c = (
+  rw c.larger-h.ensures (rising-skips _ c.requires.1.1.0 c.requires.1.1.1),
+  λ below. c.wide-across.ensures ∙ (c.label.ensures ∙ label-answered _ _ _ c.requires.0.high (omega arith)),
+)
 
-here : (c : Turn) → let a = (entry c.before).args in let l = c.loop-h in Stands a.n a.work.now a.m l.h l.across
-here c = stands (entry c.before).pre.0 (omega arith) (c.loop-h.invariant.1 c.loop-h-test.true)
+here : (c : Turn) → let a = c.args in let l = c.loop-h in Stands a.n a.work.now a.m l.h l.across
+here c = stands c.requires.0 (omega arith) (c.loop-h.invariant.1 c.loop-h-test.true)
 
 overflow_sub-across : tie.Need-overflow_sub-across invariant-loop-h decreases-loop-h
 overflow_sub-across c = omega (arith, here c.before)
@@ -60,8 +56,7 @@ bounds-work-across c = omega (arith, here c.before.before)
 
 subtract-next-requires : tie.Need-subtract-next-requires invariant-loop-h decreases-loop-h
 subtract-next-requires c κs =
-    let t = c.before.before in
-    rw (product_at_is _ (here t)) at (rising-room t.loop-h.invariant.0 t.loop-h-test.true)
+    rw (product_at_is _ (here c.before.before)) at (rising-room c.loop-h.invariant.0 c.loop-h-test.true)
 
 overflow_sub-n : tie.Need-overflow_sub-n invariant-loop-h decreases-loop-h
 overflow_sub-n c = omega arith
@@ -84,7 +79,7 @@ loop-less c = omega arith
 loop-again : tie.Need-loop-h-preserved invariant-loop-h decreases-loop-h
 loop-again c =
     let t = turn c in (
-      rising-more t.loop-h.inv.0 t.loop-h-test.taken (rw (← product_at_is _ (here t)) at c.subtract-next.ensures),
+      rising-more c.loop-h.invariant.0 c.loop-h-test.true (rw (← product_at_is _ (here t)) at c.subtract-next.ensures),
       λ below. label_across _ _ _ _ _ (here t).is c.wide.ensures (omega arith) (omega arith) (omega arith),
     )
 
@@ -92,7 +87,7 @@ returns : tie.Need-returns invariant-loop-h decreases-loop-h
 returns c = rising-ends c.loop-h.invariant.0 c.loop-h-test.false
 
 shape_of-rest : tie.Need-shape_of-rest invariant-loop-h decreases-loop-h
-shape_of-rest c = wrote_length (entry c.before).pre.1.1.1 (returns c)
+shape_of-rest c = wrote_length c.requires.1.1.1 (returns c)
 
 pub write_left_spec : {M : Type 1} → statement M
 write_left_spec =

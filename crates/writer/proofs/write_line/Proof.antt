@@ -15,30 +15,15 @@ invariant-loop-t n plan work rows columns words₀ m across divisor at₀ t₀ w
 abbrev decreases-loop-t : tie.decreases-loop-t
 decreases-loop-t n plan work rows columns words₀ m across divisor at₀ t₀ words at t = suc n - t
 
--- Places of the code: where a turn has written its place, its start and the line's head; and the entry, seen from the head.
-abbrev wrote : tie.After-wide invariant-loop-t decreases-loop-t → tie.After-write_next-at invariant-loop-t decreases-loop-t
-wrote c = c.before.before.before
-
-abbrev turn : tie.After-wide invariant-loop-t decreases-loop-t → tie.In-loop-t invariant-loop-t decreases-loop-t
-turn c = c.before.before.before.before.before.before.before
-
-abbrev head : tie.After-wide invariant-loop-t decreases-loop-t → tie.At-loop-t invariant-loop-t decreases-loop-t
-head c = (turn c).before
-
-abbrev entry : tie.At-loop-t invariant-loop-t decreases-loop-t → tie.Start invariant-loop-t decreases-loop-t
-entry c = c.before.before.before.before.before.before.before
-
 -- its place is one of the line
-below : (c : tie.After-wide invariant-loop-t decreases-loop-t) → (head c).loop.t ≤ (entry (head c)).args.n
-below c = (turn c).loop-test.true
+below : (c : tie.After-wide invariant-loop-t decreases-loop-t) → c.loop-t.t ≤ c.args.n
+below c = c.loop-t-test.true
 
 first_of-t-requires : tie.Need-first_of-t-requires invariant-loop-t decreases-loop-t
 first_of-t-requires c κs = omega arith
 
 loop-holds : tie.Need-loop-t-init invariant-loop-t decreases-loop-t
-loop-holds c =
-    let start = c.before.before.before.before.before.before in
-    along_starts _ c.first_of-t.ensures (omega arith) start.requires.1.1.1.0 start.requires.1.1.1.1
+loop-holds c = along_starts _ c.first_of-t.ensures (omega arith) c.requires.1.1.1.0 c.requires.1.1.1.1
 
 row_of-requires : tie.Need-row_of-requires invariant-loop-t decreases-loop-t
 row_of-requires c κs = search rules
@@ -48,31 +33,29 @@ column_of-requires c κs = search rules
 
 write_next-at-requires : tie.Need-write_next-at-requires invariant-loop-t decreases-loop-t
 write_next-at-requires c κs =
-    let t = c.before.before.before in
-    let p = (entry t.before).pre in
-    (p.0, along_place t.loop-t.invariant p.1.0 t.loop-t-test.true c.row_of.ensures c.column_of.ensures p.1.1.0)
+    let p = c.requires in
+    (p.0, along_place c.loop-t.invariant p.1.0 c.loop-t-test.true c.row_of.ensures c.column_of.ensures p.1.1.0)
 
 -- the t-th place is written
-place-written : (c : tie.After-wide invariant-loop-t decreases-loop-t) → let a = (entry (head c)).args in let w = (wrote c).write-next in
-    Along a.n a.plan.now a.work.now a.across a.m a.at.next a.words.now w.result ((head c).loop.t + 1) w.last.1.1.1.1.1.0
+place-written : (c : tie.After-wide invariant-loop-t decreases-loop-t) → let a = c.args in let w = c.write_next-at in
+    Along a.n a.plan.now a.work.now a.across a.m a.at.next a.words.now w.result (c.loop-t.t + 1) w.new.words
 place-written c =
-    let p = (entry (head c)).pre in
-    let w = (wrote c).write-next.ensures in
-    let at = (wrote c).before in
-    along_more (head c).loop.invariant p.1.0 (below c) at.row_of.ensures at.column_of.ensures p.1.1.0 _ w.0 w.1
+    let p = c.requires in
+    let w = c.write_next-at.ensures in
+    along_more c.loop-t.invariant p.1.0 (below c) c.row_of.ensures c.column_of.ensures p.1.1.0 _ w.0 w.1
 
 -- the line's last place has a work number, and so has this one
-room : (c : tie.After-wide invariant-loop-t decreases-loop-t) → let a = (entry (head c)).args in let w = (wrote c).write-next in
-    (w.result.done + (a.n - (head c).loop.t) ≤ length a.work.now) × (w.result.done ≤ 360000)
+room : (c : tie.After-wide invariant-loop-t decreases-loop-t) → let a = c.args in let w = c.write_next-at in
+    (w.result.done + (a.n - c.loop-t.t) ≤ length a.work.now) × (w.result.done ≤ 360000)
 room c =
-    let p = (entry (head c)).pre in
-    let v = (head c).loop.invariant in
-    omega (arith, line-long (entry (head c)).args.across p.0 p.1.0 v.rising.low (below c) v.before, (wrote c).write-next.ensures.1.0)
+    let p = c.requires in
+    let v = c.loop-t.invariant in
+    omega (arith, line-long c.args.across p.0 p.1.0 v.rising.low (below c) v.before, c.write_next-at.ensures.1.0)
 
 -- what is passed over lies in the line
-within : (c : tie.After-struct_known-1 invariant-loop-t decreases-loop-t) → let w = c.before.before in
-    ((head w).loop.t + c.zeros-empty.result ≤ (entry (head w)).args.n) × ((entry (head w)).args.n ≤ 600) × ((wrote w).write-next.result.done ≤ 360000)
-within c = let w = c.before.before in (omega (arith, c.zeros-empty.ensures.0, below w), (entry (head w)).pre.0.covers.high, (room w).1)
+within : (c : tie.After-struct_known-1 invariant-loop-t decreases-loop-t) →
+    (c.loop-t.t + c.zeros-empty.result ≤ c.args.n) × (c.args.n ≤ 600) × (c.write_next-at.result.done ≤ 360000)
+within c = let w = c.before.before in (omega (arith, c.zeros-empty.ensures.0, below w), c.requires.0.covers.high, (room w).1)
 
 wide-requires : tie.Need-wide-requires invariant-loop-t decreases-loop-t
 wide-requires c κs = search rules
@@ -96,15 +79,15 @@ loop-again : tie.Need-loop-t-preserved invariant-loop-t decreases-loop-t
 loop-again c =
     let w = c.before.before in
     let z = c.zeros-empty in
-    let p = (entry (head w)).pre in
-    let on : (head w).loop.t + (z.result + 1) ≡ (head w).loop.t + 1 + z.result = omega arith in
-    rw on (along_skips p.0 p.1.0 (place-written w) z.result (omega (arith, within c)) (λ k early. rw w.wide.ensures at (z.ensures.1 k early)))
+    let p = c.requires in
+    let on : c.loop-t.t + (z.result + 1) ≡ c.loop-t.t + 1 + z.result = omega arith in
+    rw on (along_skips p.0 p.1.0 (place-written w) z.result (omega (arith, within c)) (λ k early. rw c.wide.ensures at (z.ensures.1 k early)))
 
 returns : tie.Need-returns invariant-loop-t decreases-loop-t
 returns c = along_ends c.loop-t.invariant c.loop-t-test.false
 
 shape_of-words : tie.Need-shape_of-words invariant-loop-t decreases-loop-t
-shape_of-words c = wrote_length (entry c.before).pre.1.1.1.1 (returns c).0
+shape_of-words c = wrote_length c.requires.1.1.1.1 (returns c).0
 
 pub write_line_spec : {M : Type 1} → statement M
 write_line_spec =

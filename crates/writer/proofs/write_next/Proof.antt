@@ -13,13 +13,7 @@ use Rattle.writer.proofs.Line.{inner-none, place-left_out, place_kept, place_bou
 use Rattle.writer.proofs.write_next.Statement.{statement}
 use Rattle.writer.proofs.write_next.Tie as tie
 
--- Places of the code: where the place's words begin, where its position is found and where its slot is read, each seen from a later one; and the entry.
-abbrev entry : tie.After-shared_slice_known-5-1 → tie.Start
-entry c = c.before.before.before.before.before.before.before
-
-abbrev read : tie.After-position-position → tie.After-shared_slice_known-5-1
-read c = c.before.before
-
+-- Places of the code: where the place's words begin and where its position is found, each seen from a later one.
 abbrev found : tie.After-wide-start → tie.After-position-position
 found c = c.before.before.before.before.before.before
 
@@ -33,26 +27,26 @@ offset_bounds-work-wide : tie.Need-offset_bounds-work-wide
 offset_bounds-work-wide c = search rules
 
 -- the place has a work number, and labels are small
-bounds : (c : tie.After-shared_slice_known-5-1) → let at = (entry c).args.at in
-    (at.done < length (entry c).args.work.now) × (at.done < 360000) × (at.passed ≤ 360000)
-bounds c = let p = (entry c).requires in omega (arith, place_bounds p.0 p.1.0 p.1.1.0)
+bounds : (c : tie.After-wide) → let at = c.args.at in
+    (at.done < length c.args.work.now) × (at.done < 360000) × (at.passed ≤ 360000)
+bounds c = let p = c.requires in omega (arith, place_bounds p.0 p.1.0 p.1.1.0)
 
 bounds-work-wide : tie.Need-bounds-work-wide
-bounds-work-wide c = omega (arith, bounds c)
+bounds-work-wide c = omega (arith, bounds c.before)
 
 overflow_add-label : tie.Need-overflow_add-label
-overflow_add-label c = omega (arith, bounds c)
+overflow_add-label c = omega (arith, bounds c.before)
 
 returns-then-slot-eq0 : tie.Need-returns-then-slot-eq0
 returns-then-slot-eq0 c =
-    let p = (entry c.before).requires in
+    let p = c.requires in
     let wide = c.wide in (
       rw (place-left_out p.0 p.1.0 wide.result _ (ap suc wide.ensures ∙ p.1.1.0.here) c.if-slot-eq0.true) wrote_none,
       (add-one _, passed-left_out p.0 p.1.0 p.1.1.0 (rw wide.ensures at c.if-slot-eq0.true)),
     )
 
 position-position-requires : tie.Need-position-position-requires
-position-position-requires c κs = omega (arith, bounds c.before)
+position-position-requires c κs = omega (arith, bounds c.before.before)
 
 wide-requires-2 : tie.Need-wide-requires-2
 wide-requires-2 c κs = search rules
@@ -94,22 +88,20 @@ slice_bounds-write_place-end : tie.Need-slice_bounds-write_place-end
 slice_bounds-write_place-end c = search rules
 
 -- the place is held
-kept : (c : tie.After-position-position) → let a = (entry (read c)).args in let slot = get_or a.work.now (read c).before.wide.result 0 in
+kept : (c : tie.After-position-position) → let a = c.args in let slot = get_or a.work.now c.wide.result 0 in
     place_at a.n a.plan.now a.work.now a.divisor a.i a.j
     ≡ records_of (formula_at a.n a.work.now slot c.position-position.result a.divisor a.i a.j)
 kept c =
-    let p = (entry (read c)).requires in
-    let wide = (read c).before.wide in
+    let p = c.requires in
+    let wide = c.wide in
     place_kept p.0 p.1.0 wide.result _ (ap suc wide.ensures ∙ p.1.1.0.here) c.position-position.result c.if-slot-eq0.false
     (position-found p.0 p.1.0 p.1.1.0 _ c.position-position.ensures)
 
 write_place-after-requires : tie.Need-write_place-after-requires
 write_place-after-requires c κs =
     let f = found c.before in
-    let p = (entry (read f)).requires in
-    let wide2 = c.wide-2 in
-    let wide3 = c.wide-3 in
-    let none = inner-none p.0 _ _ _ _ _ p.1.0 wide2.ensures wide3.ensures c.larger-from.ensures in
+    let p = c.requires in
+    let none = inner-none p.0 _ _ _ _ _ p.1.0 c.wide-2.ensures c.wide-3.ensures c.larger-from.ensures in
     (p.0.covers, (p.1.0, (none, lent_room (ap (◌*◌ 4) c.wide-start.ensures) (rw (kept f) at p.1.1.1))))
 
 larger-requires-2 : tie.Need-larger-requires
@@ -121,9 +113,9 @@ shape_of-words c = search rules
 returns-2 : tie.Need-returns
 returns-2 c =
     let f = found (begun c) in
-    let p = (entry (read f)).requires in (
-      rw (kept f) (lent_back (ap (◌*◌ 4) (begun c).wide4.ensures) c.write_place-after.ensures),
-      (add-one _, c.larger.ensures ∙ passed-kept p.0 p.1.0 p.1.1.0 _ f.position-position.ensures),
+    let p = c.requires in (
+      rw (kept f) (lent_back (ap (◌*◌ 4) c.wide-start.ensures) c.write_place-after.ensures),
+      (add-one _, c.larger.ensures ∙ passed-kept p.0 p.1.0 p.1.1.0 _ c.position-position.ensures),
     )
 
 pub write_next_spec : {M : Type 1} → statement M

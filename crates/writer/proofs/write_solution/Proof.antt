@@ -39,9 +39,8 @@ slice_bounds-write_backward-end c = search rules
 write_backward-next-requires : tie.Need-write_backward-next-requires invariant-loop-i decreases-loop-i
 unfolding x_at
 write_backward-next-requires c κs =
-    let t = c.before.before in
-    let room = falling-room t.loop-i.invariant t.loop-i-test.true in
-    (t.requires.0, (omega arith, lent_room (ap (◌*◌ 4) c.wide-start.ensures) room))
+    let room = falling-room c.loop-i.invariant c.loop-i-test.true in
+    (c.requires.0, (omega arith, lent_room (ap (◌*◌ 4) c.wide-start.ensures) room))
 
 overflow_sub-i : tie.Need-overflow_sub-i invariant-loop-i decreases-loop-i
 overflow_sub-i c = omega arith
@@ -52,9 +51,7 @@ loop-less c = omega arith
 loop-again : tie.Need-loop-i-preserved invariant-loop-i decreases-loop-i
 unfolding x_at
 loop-again c =
-    let w = c.before.before.before.before in
-    let t = w.before in
-    falling_more t.loop-i.invariant t.loop-i-test.true (lent_back (ap (◌*◌ 4) w.wide-start.ensures) c.write_backward-next.ensures)
+    falling_more c.loop-i.invariant c.loop-i-test.true (lent_back (ap (◌*◌ 4) c.wide-start.ensures) c.write_backward-next.ensures)
 
 returns : tie.Need-returns invariant-loop-i decreases-loop-i
 returns c = falling-ends c.loop-i.invariant c.loop-i-test.false

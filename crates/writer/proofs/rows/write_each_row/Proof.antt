@@ -38,9 +38,8 @@ slice_bounds-write_row-end c = search rules
 
 write_row-next-requires : tie.Need-write_row-next-requires invariant-loop-r decreases-loop-r
 write_row-next-requires c κs =
-    let t = c.before.before in
-    let room = rising-room t.loop-r.invariant (omega arith) in
-    (t.requires.0, (omega arith, lent_room (ap (◌*◌ 4) c.wide-start.ensures) room))
+    let room = rising-room c.loop-r.invariant (omega arith) in
+    (c.requires.0, (omega arith, lent_room (ap (◌*◌ 4) c.wide-start.ensures) room))
 
 overflow_add-r : tie.Need-overflow_add-r invariant-loop-r decreases-loop-r
 overflow_add-r c = omega arith
@@ -50,9 +49,7 @@ loop-less c = omega arith
 
 loop-again : tie.Need-loop-r-preserved invariant-loop-r decreases-loop-r
 loop-again c =
-    let w = c.before.before.before.before in
-    let t = w.before in
-    rising-more t.loop-r.invariant (omega arith) (lent_back (ap (◌*◌ 4) w.wide-start.ensures) c.write_row-next.ensures)
+    rising-more c.loop-r.invariant (omega arith) (lent_back (ap (◌*◌ 4) c.wide-start.ensures) c.write_row-next.ensures)
 
 returns : tie.Need-returns invariant-loop-r decreases-loop-r
 returns c = rising-ends c.loop-r.invariant (omega arith)

@@ -5,13 +5,6 @@ use Rattle.writer.proofs.Written.{wrote_more, room-front, room_back}
 use Rattle.writer.proofs.rows.write_others.Statement.{statement}
 use Rattle.writer.proofs.rows.write_others.Tie as tie
 
--- Places of the code: where the left part is written, seen from the right one, and the entry.
-abbrev entry : tie.After-write_left-left → tie.Start
-entry c = c.before.before.before.before
-
-abbrev left : tie.After-write_right_of-arg-1 → tie.After-write_left-left
-left c = c.before.before.before
-
 write_left-left-requires : tie.Need-write_left-left-requires
 write_left-left-requires c κs =
     let p = c.requires in
@@ -19,18 +12,14 @@ write_left-left-requires c κs =
 
 write_right_of-requires : tie.Need-write_right_of-requires
 write_right_of-requires c κs =
-    let l = left c in
-    let p = (entry l).pre in
-    (p.0, (p.1.0, room_back p.1.1 l.write_left-left.ensures))
+    let p = c.requires in
+    (p.0, (p.1.0, room_back p.1.1 c.write_left-left.ensures))
 
 shape_of-rest : tie.Need-shape_of-rest
 shape_of-rest c = search rules
 
 returns : tie.Need-returns
-returns c =
-    let right = c.before.before in
-    let l = left right.before in
-    wrote_more (entry l).pre.1.1 l.write_left-left.ensures right.write_right_of.ensures
+returns c = wrote_more c.requires.1.1 c.write_left-left.ensures c.write_right_of.ensures
 
 pub write_others_spec : {M : Type 1} → statement M
 write_others_spec =

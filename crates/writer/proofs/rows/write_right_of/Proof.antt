@@ -22,12 +22,9 @@ invariant-loop-j n work rest₀ first k r next₀ j₀ across₀ rest next j acr
 abbrev decreases-loop-j : tie.decreases-loop-j
 decreases-loop-j n work rest₀ first k r next₀ j₀ across₀ rest next j across = suc n - j
 
--- Places of the code: a turn, seen from its end, and the entry, seen from the loop's head.
+-- Places of the code: a turn, seen from its end.
 abbrev Turn : Type 0
 Turn = tie.In-loop-j invariant-loop-j decreases-loop-j
-
-abbrev entry : tie.At-loop-j invariant-loop-j decreases-loop-j → tie.Start invariant-loop-j decreases-loop-j
-entry c = c.before.before.before.before.before.before
 
 abbrev turn : tie.After-slice_known-in-loop-j-1 invariant-loop-j decreases-loop-j → Turn
 turn c = c.before.before.before.before.before
@@ -67,8 +64,8 @@ loop-holds c =
       label_right_of _ _ _ _ (diagonal c.before).is c.wide-2.ensures pre.1.0,
     )
 
-here : (c : Turn) → let a = (entry c.before).args in let l = c.loop-j in Stands a.n a.work.now a.r l.j l.across
-here c = stands (entry c.before).pre.0 (omega arith) c.loop-j.invariant.1
+here : (c : Turn) → let a = c.args in let l = c.loop-j in Stands a.n a.work.now a.r l.j l.across
+here c = stands c.requires.0 (omega arith) c.loop-j.invariant.1
 
 overflow_sub-across : tie.Need-overflow_sub-across invariant-loop-j decreases-loop-j
 overflow_sub-across c = omega (arith, here c.before)
@@ -81,8 +78,7 @@ bounds-work-across c = omega (arith, here c.before.before)
 
 subtract-next-requires : tie.Need-subtract-next-requires invariant-loop-j decreases-loop-j
 subtract-next-requires c κs =
-    let t = c.before.before in
-    rw (product_at_is _ (here t)) at (rising-room t.loop-j.invariant.0 (omega arith))
+    rw (product_at_is _ (here c.before.before)) at (rising-room c.loop-j.invariant.0 (omega arith))
 
 overflow_add-across-in-loop-j : tie.Need-overflow_add-across-in-loop-j invariant-loop-j decreases-loop-j
 overflow_add-across-in-loop-j c = omega (arith, here (turn c))
@@ -96,15 +92,15 @@ loop-less c = omega arith
 loop-again : tie.Need-loop-j-preserved invariant-loop-j decreases-loop-j
 loop-again c =
     let t = turn c in (
-      rising-more t.loop-j.inv.0 (omega arith) (rw (← product_at_is _ (here t)) at c.subtract-next.ensures),
-      label-onward _ _ _ _ (here t).is t.loop-j.inv.0.low,
+      rising-more c.loop-j.invariant.0 (omega arith) (rw (← product_at_is _ (here t)) at c.subtract-next.ensures),
+      label-onward _ _ _ _ (here t).is c.loop-j.invariant.0.low,
     )
 
 returns : tie.Need-returns invariant-loop-j decreases-loop-j
 returns c = rising-ends c.loop-j.invariant.0 (omega arith)
 
 shape_of-rest : tie.Need-shape_of-rest invariant-loop-j decreases-loop-j
-shape_of-rest c = wrote_length (entry c.before).pre.1.1 (returns c)
+shape_of-rest c = wrote_length c.requires.1.1 (returns c)
 
 pub write_right_of_spec : {M : Type 1} → statement M
 write_right_of_spec =

@@ -1,0 +1,7 @@
+-- `runner::by_method`: the word that tells the method is there.
+use native.Mathlib.Omega.{arith}
+use Rattle.model.proofs.Passing.{fine-passed}
+use Rattle.runner.proofs.by_method.Goals as goal
+
+pub bounds-words-2 : goal.bounds-words-2
+bounds-words-2 c = omega (arith, fine-passed _ c.requires.checked)
