@@ -13,36 +13,18 @@ use Rattle.compiler.specs.Compilation.{compiled_of}
 use Rattle.solver.proofs.solve.Statement.{statement}
 use Rattle.solver.proofs.solve.Tie as tie
 
--- Places of the code: where the slices of A and B are known, and before it the entry, seen from the compiler's answer; that answer, seen from where it is
--- told as a refusal, and from where the program's end is known; and the run's answer, seen from the end.
-abbrev lent : tie.After-compile → tie.After-shared_slice_known-3-1
-lent c = c.before.before.before.before.before.before.before.before
-
-abbrev entry : tie.After-compile → tie.Start
-entry c = (lent c).before.before.before
-
-abbrev refused : tie.In-Refused → tie.After-compile
-refused c = c.before.before.before.before.before.before.before
-
-abbrev accepted : tie.After-wide-end → tie.After-compile
-accepted c = c.before.before.before.before.before.before.before.before
-
-abbrev ran : tie.After-slice_known-in-Written-3-1 → tie.After-run
-ran c = c.before.before.before.before.before.before
-
 -- the compiler wrote the program, and it stands at the start of the words
-succeeded : (w : tie.After-wide-end) → let a = (entry (accepted w)).args in let v = w.records-1.given.0 in
-    compiles a.n a.plan.now (length a.work.now) (length a.words.now) ≡ written v.0 v.1.0 v.1.1.0
-succeeded w = sym (accepted w).compile.ensures.0 ∙ ap compiled_of w.records-1.given.1
+succeeded : (w : tie.After-wide-end) → let a = w.args in let v = w.in-Written in
+    compiles a.n a.plan.now (length a.work.now) (length a.words.now) ≡ written v.slots v.products v.records
+succeeded w = sym w.compile.ensures.0 ∙ ap compiled_of w.in-Written.is
 
-fits : (w : tie.After-wide-end) → 4 * w.wide-end.result ≤ length (accepted w).compile.new.1.1.1.0
+fits : (w : tie.After-wide-end) → 4 * w.wide-end.result ≤ length w.compile.new.words
 fits w =
-    let words = (entry (accepted w)).args.words in
-    omega (arith, w.wide-end.ensures, ap length (accepted w).compile.ensures.1.1, program-fits _ _ _ words.now _ _ _ (succeeded w))
+    omega (arith, w.wide-end.ensures, ap length w.compile.ensures.1.1, program-fits _ _ _ w.args.words.now _ _ _ (succeeded w))
 
-taken : (w : tie.After-wide-end) → let a = (entry (accepted w)).args in
-    take (4 * w.wide-end.result) (accepted w).compile.new.1.1.1.0 ≡ compiled a.n a.plan.now
-taken w = ap₂ (λ m words. take (4 * m) words) w.wide-end.ensures (accepted w).compile.ensures.1.1 ∙ program-taken _ _ _ _ _ _ _ (succeeded w)
+taken : (w : tie.After-wide-end) → let a = w.args in
+    take (4 * w.wide-end.result) w.compile.new.words ≡ compiled a.n a.plan.now
+taken w = ap₂ (λ m words. take (4 * m) words) w.wide-end.ensures w.compile.ensures.1.1 ∙ program-taken _ _ _ _ _ _ _ (succeeded w)
 
 compile-requires : tie.Need-compile-requires
 compile-requires c κs = search rules
@@ -76,8 +58,8 @@ shape_of-words-in-Refused c = search rules
 
 returns-in-Refused : tie.Need-returns-in-Refused
 returns-in-Refused c =
-    let call = (refused c).compile.ensures in
-    let e = refused-solves _ _ _ _ _ _ _ _ _ _ _ _ (sym call.0 ∙ ap compiled_of c.number-1.given.1) in
+    let call = c.compile.ensures in
+    let e = refused-solves _ _ _ _ _ _ _ _ _ _ _ _ (sym call.0 ∙ ap compiled_of c.in-Refused.is) in
     (e.tells, (e.replies, (call.1.0, (call.1.1, (e.c_is, (e.y_is, e.x-is))))))
 
 shape_of-work-in-Written : tie.Need-shape_of-work-in-Written
@@ -97,13 +79,12 @@ shape_of-x c = search rules
 
 returns-in-Written : tie.Need-returns-in-Written
 returns-in-Written c =
-    let wide = (ran c).before.before.before.before.before in
-    let known = lent (accepted wide) in
-    let start = (entry (accepted wide)).args in
-    let call = (accepted wide).compile.ensures in
-    let run = rw (taken wide) at (ran c).run.ensures in
-    let e = ran-solves _ _ _ _ _ _ _ start.c-1.now start.y-1.now start.x-1.now _ _ _ (succeeded wide)
-    known.shared_slice_known-2-1.given known.shared_slice_known-3-1.given in
+    let w = c.before.before.before.before.before.before.before.before.before.before in
+    let a = c.args in
+    let call = c.compile.ensures in
+    let run = rw (taken w) at c.run.ensures in
+    let e = ran-solves _ _ _ _ _ _ _ a.c.now a.y.now a.x.now _ _ _ (succeeded w)
+    c.shared_slice_known-2-1.given c.shared_slice_known-3-1.given in
     (ap tells_of run.0 ∙ e.tells, (run.0 ∙ e.replies, (call.1.0, (call.1.1, (run.1.0 ∙ e.c_is, (run.1.1.0 ∙ e.y_is, run.1.1.1 ∙ e.x-is))))))
 
 pub solve_spec : {M : Type 1} → statement M
