@@ -1,5 +1,6 @@
 // Whether the rooms numbered t and t + 1 are kept exchanged: document 02, A.12. Of all batches two alone change, t and t + 1.
 #![tactic(auto)]
+
 ghost use Rattle.std.specs.Prelude.{◌≡◌, true, false, not, cond, suc, ◌-◌, ◌*◌, ◌≤◌, ltb, length, get_or};
 ghost use Rattle.model.specs.Label;
 ghost use Rattle.model.specs.Numbering.{renumbered, exchanged, tried};
