@@ -1,8 +1,8 @@
 -- The parts of the right sides that were refused are cleared one by one.
-use Prim.Native.Nat.{ℕ, ◌+◌, ◌-◌, ◌*◌, ◌≤◌, ◌<◌}
-use native.Mathlib.Nat.{not-suc-le-zero, mul-le-mul, mul-le-mul_right}
+use Prim.Native.Nat.{ℕ, ◌+◌, ◌*◌, ◌≤◌, ◌<◌}
+use native.Mathlib.Nat.{mul-le-mul_right}
 use native.Mathlib.Omega.{arith}
-use mathlib.Core.Path.{◌≡◌, refl, sym, ap, ◌∙◌}
+use mathlib.Core.Path.{◌≡◌, ap, ◌∙◌}
 use mathlib.Core.List.{List, ◌++◌}
 use borrow.Author.Count.{below_more}
 use borrow.Author.Tests.{eq-eqb, ne_eqb}
@@ -13,12 +13,6 @@ use Rattle.model.specs.Many.{part}
 use Rattle.model.proofs.Parts.{part_length, with_part, with_length, with_same, with_others}
 use Rattle.many.specs.Passes.{ClearedEnded}
 
--- a part stands within the row, and the row is short
-pub room : (count N r : ℕ) → count ≤ 64 → N ≤ 600 → r < count → (r * N + N ≤ count * N) × (count * N ≤ 38400)
-room count N r few small h = (omega (arith, mul-le-mul_right N h), mul-le-mul {n₂ = 64} {m₂ = 600} few small)
-
--- ---- the loop
-
 -- between two sides: the parts below r are as they shall be, the others as they were
 pub record PartsCleared (count N r : ℕ) (out : List ℕ) (values₀ values : List Float) : Type 0 where
   pub low : r ≤ count
@@ -26,13 +20,7 @@ pub record PartsCleared (count N r : ℕ) (out : List ℕ) (values₀ values : L
   pub done : ClearedEnded r N out values₀ values
   pub rest : (j : ℕ) → r ≤ j → part N values j ≡ part N values₀ j
 
-pub cleared-none : (count N : ℕ) (out : List ℕ) (values : List Float) → length values ≡ count * N → PartsCleared count N 0 out values values
-cleared-none count N out values long = record { low = omega arith; long = long; done = λ r h. absurd (not-suc-le-zero h); rest = λ j h. refl }
-
 module _ {count N r : ℕ} {out : List ℕ} {values₀ values : List Float} (p : PartsCleared count N r out values₀ values) where
-  pub cleared-all : count ≤ r → ClearedEnded count N out values₀ values
-  cleared-all h = let all : r ≡ count = omega arith in rw all at p.done
-
   -- one side more, which goes on
   pub cleared-going : r < count → get_or out (4 * r + 1) 0 ≡ 0 → PartsCleared count N (r + 1) out values₀ values
   cleared-going h e = record {

@@ -3,7 +3,6 @@ mod Going
 mod Own
 mod Passing
 mod Calls
-mod Told
 mod Cleared
 mod Side
 mod Report

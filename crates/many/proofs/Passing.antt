@@ -2,13 +2,13 @@
 use Prim.Native.Nat.{ℕ, ◌+◌, ◌*◌, ◌/◌, ◌≤◌, ◌<◌}
 use native.Mathlib.Omega.{arith}
 use mathlib.Core.Path.{◌≡◌, refl, sym, ap, subst, subst₂, ◌∙◌}
-use mathlib.Core.Bool.{true, false, false≢true}
+use mathlib.Core.Bool.{Bool, true, false, false≢true}
 use mathlib.Core.List.{List, [], ◌∷◌, ◌++◌}
 use lib.Dec.{eqb}
 use lib.ListN.{length, get_or, set, replicate, length-replicate, get_or-replicate, length-append}
 use lib.Seq.{get_or-set_same, get_or-set_other}
 use lib.Ieee.{Float}
-use borrow.Author.Tests.{eqb-true}
+use borrow.Author.Tests.{eqb-true, eqb-false}
 use Rattle.model.specs.Label.{is_order}
 use Rattle.model.specs.Check.{Link, word, next_of, chain, kind_of, is_idle, is_sweep, length_y, complete, belongs, allowed}
 use Rattle.model.specs.Run as Run
@@ -61,6 +61,12 @@ module _ (W : List ℕ) (count : ℕ) (A B : List Float) (limit : Float) (out₀
     pub done : Done c y x running out z links last
     pub counts : records ≡ length links
     pub way : Way out links last next
+
+-- the next record and the number of those that are done stand within the words, which are few
+pub record Within (W : List ℕ) (records next : ℕ) : Type 0 where
+  pub comes : next < length W / 4
+  pub made : records < length W / 4
+  pub few : length W / 4 ≤ 100000000
 
 -- ---- the program
 
@@ -301,11 +307,9 @@ module _ {W : List ℕ} {count : ℕ} {A B : List Float} {limit : Float} {out₀
     follows_some : next_of W t.last ≡ 0 → ⊥
     follows_some e = some (sym goes_on.1 ∙ e)
 
-    -- it stands within the words, and fewer records were done than stand before it
-    pub inside : (next < length W / 4) × (records < next)
-    inside =
-        let fits = next-inside t.done goes_on.0 follows_some in
-        omega (arith, goes_on.1, t.counts, t.done.seen.few)
+    -- it stands within the words
+    inside : next < length W / 4
+    inside = let fits = next-inside t.done goes_on.0 follows_some in omega (arith, goes_on.1, fits)
 
     -- its step has all that it relies on, where N is the order as it was read
     pub ready : {N : ℕ} → N ≡ word W 0 → SidesReady count N (length A) (length B) (length c) (length y) (length x) (length running) out z
@@ -342,6 +346,19 @@ module _ {W : List ℕ} {count : ℕ} {A B : List Float} {limit : Float} {out₀
       pub turned_over : any_going count out' ≡ false → Turn W count A B limit out₀ c' y' x' running' out' z' (records + 1) 0
       turned_over none = turned (over none refl (read-over t.done goes_on.0 follows_some done-after none))
 
+  -- in every turn both do, 0 too, which stands for no next record
+  pub within : {c y x running : List Float} {out : List ℕ} {z : State} {records next : ℕ}
+      → Turn W count A B limit out₀ c y x running out z records next → Within W records next
+  within {next = next} t = record {
+    comes = by (eqb next 0) refl;
+    made = omega (arith, t.counts, t.done.seen.few, t.done.inside);
+    few = few-records t.done.fit;
+  }
+    where
+      by : (b : Bool) → eqb next 0 ≡ b → next < length W / 4
+      by true e = omega (arith, eqb-true next 0 e, t.done.inside)
+      by false e = inside t (eqb-false next 0 e)
+
   -- no record is left
   module _ {c y x running : List Float} {out : List ℕ} {z : State} {records next : ℕ}
       (t : Turn W count A B limit out₀ c y x running out z records next) (none : next ≡ 0) where
@@ -364,6 +381,7 @@ module _ {W : List ℕ} {count : ℕ} {A B : List Float} {limit : Float} {out₀
 
         refused : (r : ℕ) (f : Followed) → side_after W A B limit t.links r ≡ f → Halted f → f ≡ side_along W A limit (side r)
         refused r (halted n i u j) is ended = sym (seen-halted seen A (side r) limit (fresh (word W 0)) n i u j is)
+        refused r (through _) is ended = elim ended [ ]
 
         go : Way W count A B limit out₀ out t.links t.last next → Ends
         go (on goes is) =

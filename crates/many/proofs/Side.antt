@@ -94,3 +94,4 @@ shared_c-held (stopped r k t n ∷ os) c vs (Memᴰ.head e) solved each = absurd
 shared_c-held (stopped r k t n ∷ os) c vs (Memᴰ.tail m) solved each = shared_c-held os c vs m solved (λ o m. each o (Memᴰ.tail m))
 shared_c-held (refused_by r d ∷ os) c vs m solved each = absurd (each (refused_by r d) (Memᴰ.head refl))
 shared_c-held (unsettled_at t ∷ os) c vs m solved each = absurd (each (unsettled_at t) (Memᴰ.head refl))
+shared_c-held [] c vs {o = o} m solved each = elim m [ ]

@@ -1,8 +1,8 @@
 -- `runner::follow`: how the run starts, goes on after a step, stops at it, and ends.
+use Prim.Native.Nat.{◌+◌}
 use native.Mathlib.Omega.{arith}
 use mathlib.Core.Path.{sym, subst, ◌∙◌}
 use Rattle.model.proofs.Passing.{fine-passed}
-use Prim.Native.Nat.{◌+◌}
 use Rattle.runner.proofs.Turns.{NextRuns, starts, ended, fits, ready, turned, stopped-at, gets_on}
 use Rattle.runner.proofs.follow.Goals as goal
 

@@ -1,0 +1,41 @@
+-- `many::pass`: how the loop starts, goes on after a step, or ends.
+use native.Mathlib.Omega.{arith}
+use mathlib.Core.Path.{sym, ◌∙◌}
+use Rattle.many.proofs.Passing.{some_words, starts, within, ready, turned_on, turned_over, ended}
+use Rattle.many.proofs.pass.Goals as goal
+
+pub bounds-words-0 : goal.bounds-words-0
+bounds-words-0 c = omega (arith, some_words c.requires.fit_many)
+
+pub bounds-words-3 : goal.bounds-words-3
+bounds-words-3 c = omega (arith, some_words c.requires.fit_many)
+
+pub loop-next-init : goal.loop-next-init
+loop-next-init c =
+    let p = c.requires in
+    let turn = starts p.fit_many p.running_len.0 p.running_len.1 c.fresh-z.ensures c.wide-next.ensures in
+    record { order = c.wide-order.ensures; turn = turn; within = within turn }
+
+pub step-z-requires : goal.step-z-requires
+step-z-requires c = ready c.loop-next.invariant.turn c.loop-next-test.true c.loop-next.invariant.order
+
+pub loop-next-preserved-then-any_going : goal.loop-next-preserved-then-any_going
+loop-next-preserved-then-any_going c =
+    let i = c.loop-next.invariant in
+    let e = c.step-z.ensures in
+    let kept = c.step-z.auto in
+    let turn = turned_on i.turn c.loop-next-test.true i.order (record { of_c = kept.c; of_y = kept.y; of_x = kept.x }) kept.running kept.out
+    e.steps e.sound.0 e.sound.1 (sym c.any_going.ensures ∙ c.if-any_going.true) c.wide-next-then-any_going.ensures in
+    record { order = i.order; turn = turn; within = within turn }
+
+pub loop-next-preserved : goal.loop-next-preserved
+loop-next-preserved c =
+    let i = c.loop-next.invariant in
+    let e = c.step-z.ensures in
+    let kept = c.step-z.auto in
+    let turn = turned_over i.turn c.loop-next-test.true i.order (record { of_c = kept.c; of_y = kept.y; of_x = kept.x }) kept.running kept.out
+    e.steps e.sound.0 e.sound.1 (sym c.any_going.ensures ∙ c.if-any_going.false) in
+    record { order = i.order; turn = turn; within = within turn }
+
+pub returns : goal.returns
+returns c = ended c.loop-next.invariant.turn c.loop-next-test.false
