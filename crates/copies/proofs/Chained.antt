@@ -16,7 +16,7 @@ use Rattle.model.proofs.Spaced.{broken-whole}
 use Rattle.copies.specs.Beside.{OnChain, told, Leads}
 use Rattle.copies.specs.Compared.{first_records}
 use Rattle.copies.specs.declared.Compared.{Compared}
-use Rattle.copies.proofs.Leading.{Comparing, comparing_starts, comparing_more, comparing_ends, comparing_over}
+use Rattle.copies.proofs.Leading.{Comparing, comparing_more, comparing_ends, comparing_over}
 
 -- ---- the chain after record k
 
@@ -94,12 +94,6 @@ Ended W formula count z₀ z = OnChain W z.last
     × (Leads W (first_records formula count) z₀ z × (((z.done ≡ z₀.done) × (z.passed ≡ z₀.passed)) × (z.same ≡ true → z₀.same ≡ true)))
 
 module _ {W formula : List ℕ} {count : ℕ} where
-  -- before the first turn none is
-  pub going_starts : {z : Compared} → OnChain W z.last → Going W formula count z z 0
-  going_starts on =
-      let all : count - 0 ≡ count = omega arith in
-      record { few = omega arith; on = on; comparing = rw all comparing_starts; kept = (refl, refl); already = λ e. e }
-
   module _ {z₀ z : Compared} {i : ℕ} (going : Going W formula count z₀ z i) where
     -- one record more is compared, and leads to z'
     turned : (z' : Compared) → z.same ≡ true → i < count → OnChain W z'.last → Leads W (record_at formula i ∷ []) z z'

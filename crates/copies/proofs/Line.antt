@@ -19,7 +19,7 @@ use Rattle.writer.proofs.Line.{OnLine, line-place, place_of_line, line_more, lin
 use Rattle.copies.specs.Beside.{OnChain, Leads, cursor_of}
 use Rattle.copies.specs.Compared.{first_records}
 use Rattle.copies.specs.declared.Compared.{Compared}
-use Rattle.copies.proofs.Leading.{leads_like, Comparing, comparing_starts, comparing_more, comparing_ends, comparing_over}
+use Rattle.copies.proofs.Leading.{leads_like, Comparing, comparing_more, comparing_ends, comparing_over}
 use Rattle.copies.proofs.Written.{formula_leads, place-room}
 
 module _ (n : ℕ) (L : Plan) (work : List ℕ) (across : Bool) (m : ℕ) (W : List ℕ) (z₀ : Compared) where
@@ -38,23 +38,6 @@ module _ (n : ℕ) (L : Plan) (work : List ℕ) (across : Bool) (m : ℕ) (W : L
       × (Leads W (line_records n L work across m) z₀ z × (z.same ≡ true → Before n L (row_of across m (suc n)) (column_of across m (suc n)) (cursor_of z)))
 
 module _ {n : ℕ} {L : Plan} {work : List ℕ} {across : Bool} {m : ℕ} {W : List ℕ} where
-  pub led_starts : {formula : List ℕ} {z : Compared} (t : ℕ) → t ≡ first_of across m → m ≤ n
-      → (z.same ≡ true → Before n L (row_of across m (first_of across m)) (column_of across m (first_of across m)) (cursor_of z))
-      → OnChain W z.last → length formula ≡ 2412 → Led n L work across m W z formula z t
-  led_starts t e inside before chain long =
-      record {
-        low = rw e (omega arith);
-        high = rw e (first across);
-        long = long;
-        chain = chain;
-        comparing = rw e comparing_starts;
-        before = rw e before;
-      }
-    where
-      first : (b : Bool) → first_of b m ≤ suc n
-      first true = omega arith
-      first false = omega arith
-
   module _ {z₀ z : Compared} {formula : List ℕ} {t : ℕ} (led : Led n L work across m W z₀ formula z t) where
     -- a record differs, or no place is left
     pub led_differs : z.same ≡ false → LedOver n L work across m W z₀ z

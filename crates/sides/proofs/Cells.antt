@@ -12,9 +12,8 @@ use borrow.Author.Tests.{eq-eqb, ne_eqb}
 use lib.ListN.{length, get_or, set, length-set}
 use lib.Seq.{get_or-set_same, get_or-set_other}
 use lib.Ieee.{Float, nan}
-use Rattle.model.specs.Arith.{plus_zero, Answer, number, overflow, zero_divisor, is_finite, quotient, vanishes}
+use Rattle.model.specs.Arith.{plus_zero, Answer, number, overflow, zero_divisor, is_finite, vanishes}
 use Rattle.model.specs.Formula.{less}
-use Rattle.model.specs.Boundary.{refusal_number}
 use Rattle.model.specs.Many.{part}
 use Rattle.model.proofs.Arith.{less_finite}
 use Rattle.model.proofs.Parts.{part-set, part-set-other}
@@ -22,7 +21,7 @@ use Rattle.state.proofs.Tables.{get_or-within}
 use Rattle.arith.specs.declared.Operation.{Operation}
 use Rattle.arith.specs.Answer.{answer_of, has_vanished}
 use Rattle.sides.specs.declared.each.At.{At}
-use Rattle.sides.specs.Cells.{Cell, cell_of, if_going, ended_by, gone_on, answered, subtracted, divided, One, Each, Started, Closed, any_going, Room, Laid}
+use Rattle.sides.specs.Cells.{Cell, cell_of, if_going, gone_on, answered, subtracted, One, Each, Closed, any_going, Room, Laid}
 
 -- ---- one side's numbers changed
 
@@ -77,49 +76,6 @@ module _ (r : ℕ) (running : List Float) (out : List ℕ) where
         above = λ j h. kept j (omega arith);
       }
 
-  -- a refusal with its record, the table and number of the open target, and no product that vanished
-  pub one-ends : (at : At) (n : ℕ) → 4 * r + 4 < length out → One r (ended_by at n) running out running
-      (set (set (set (set out (4 * r + 1) (refusal_number n at.record)) (4 * r + 2) at.table) (4 * r + 3) at.target) (4 * r + 4) 0)
-  one-ends at n long = record {
-    changed = rw (
-      four (4 * r + 1) (omega arith),
-      three (4 * r + 1) (omega arith),
-      two (4 * r + 1) (omega arith),
-      get_or-set_same out (4 * r + 1) (refusal_number n at.record) 0 (omega arith),
-      four (4 * r + 2) (omega arith),
-      three (4 * r + 2) (omega arith),
-      get_or-set_same out₁ (4 * r + 2) at.table 0 (rw length-set (omega arith)),
-      four (4 * r + 3) (omega arith),
-      get_or-set_same out₂ (4 * r + 3) at.target 0 (simp length-set (omega arith)),
-      get_or-set_same out₃ (4 * r + 4) 0 0 (simp length-set long),
-    );
-    others = λ j other. refl;
-    below = λ j h. kept j (omega arith) (omega arith) (omega arith) (omega arith);
-    above = λ j h. kept j (omega arith) (omega arith) (omega arith) (omega arith);
-  }
-    where
-      out₁ : List ℕ
-      out₁ = set out (4 * r + 1) (refusal_number n at.record)
-
-      out₂ : List ℕ
-      out₂ = set out₁ (4 * r + 2) at.table
-
-      out₃ : List ℕ
-      out₃ = set out₂ (4 * r + 3) at.target
-
-      four : (j : ℕ) → (j ≡ 4 * r + 4 → ⊥) → get_or (set out₃ (4 * r + 4) 0) j 0 ≡ get_or out₃ j 0
-      four j other = get_or-set_other out₃ (4 * r + 4) j 0 0 other
-
-      three : (j : ℕ) → (j ≡ 4 * r + 3 → ⊥) → get_or out₃ j 0 ≡ get_or out₂ j 0
-      three j other = get_or-set_other out₂ (4 * r + 3) j at.target 0 other
-
-      two : (j : ℕ) → (j ≡ 4 * r + 2 → ⊥) → get_or out₂ j 0 ≡ get_or out₁ j 0
-      two j other = get_or-set_other out₁ (4 * r + 2) j at.table 0 other
-
-      kept : (j : ℕ) → (j ≡ 4 * r + 1 → ⊥) → (j ≡ 4 * r + 2 → ⊥) → (j ≡ 4 * r + 3 → ⊥) → (j ≡ 4 * r + 4 → ⊥)
-          → get_or (set out₃ (4 * r + 4) 0) j 0 ≡ get_or out j 0
-      kept j a b c d = four j d ∙ three j c ∙ two j b ∙ get_or-set_other out (4 * r + 1) j (refusal_number n at.record) 0 a
-
 -- ---- an operation on the running number of a side that goes on
 
 module _ (at : At) (r : ℕ) (running : List Float) (out : List ℕ) (within : r < length running) (goes : get_or out (4 * r + 1) 0 ≡ 0) where
@@ -145,15 +101,6 @@ module _ (at : At) (r : ℕ) (running : List Float) (out : List ℕ) (within : r
         by (number v) h = rw (gone, less_finite acc a b v h)
         by overflow h = refl
         by zero_divisor h = refl
-
-    pub one-divides : One r (answered at (answer_of o) false) running out running' out' → (b : Float) → answer_of result ≡ quotient acc b
-        → One r (if_going (divided at b)) running out running' out'
-    one-divides one b is =
-        one-going
-        (one_as one (divided at b)
-        (ap (λ answer. answered at answer false cell)
-        (ap answer_of (sym found) ∙ is ∙ ap (λ v. quotient v b) (get_or-within running r nan plus_zero within))))
-        goes
 
 -- ---- those of the first sides, one by one
 
@@ -184,18 +131,11 @@ pub record Changed (count i : ℕ) (f : ℕ → Cell → Cell) (running₀ : Lis
   pub room : Room count (length running) (length out)
   pub each : Each i f running₀ out₀ running out
 
--- before the first turn, after one more, and after the last
-pub changed-none : {count : ℕ} (f : ℕ → Cell → Cell) (running : List Float) (out : List ℕ) → Room count (length running) (length out)
-    → Changed count 0 f running out running out
-changed-none f running out room = record { low = omega arith; room = room; each = each_none f running out }
-
 module _ {count i : ℕ} {f : ℕ → Cell → Cell} {running₀ running : List Float} {out₀ out : List ℕ} (changed : Changed count i f running₀ out₀ running out) where
+  -- after one more turn
   pub changed_more : (running' : List Float) (out' : List ℕ) → i < count → length running' ≡ length running → length out' ≡ length out
       → One i (f i) running out running' out' → Changed count (i + 1) f running₀ out₀ running' out'
   changed_more running' out' h lr lo one = record { low = omega arith; room = rw (lr, lo) changed.room; each = each_more changed.each one }
-
-  pub changed-all : count ≤ i → Each count f running₀ out₀ running out
-  changed-all end = let all : i ≡ count = omega arith in rw all at changed.each
 
 -- ---- whether a side goes on
 
@@ -217,13 +157,6 @@ any-more r out none e = rw (add-one, none, ne_eqb _ _ e)
 pub laid_within : {count N at lv : ℕ} (r : ℕ) → Laid count N at lv → r < count → r * N + at < lv
 laid_within {count} {N} r laid h = omega (arith, mul-le-mul_right N h)
 
--- one side more has its running number
-pub started_more : (value : ℕ → Float) (running : List Float) (i : ℕ) (v : Float) → i < length running → v ≡ value i → Started i value running
-    → Started (i + 1) value (set running i v)
-started_more value running i v h e started =
-    below_more (λ r. get_or (set running i v) r plus_zero ≡ value r) i (λ r low. get_or-set_other running i r v plus_zero (omega arith) ∙ started r low)
-    (get_or-set_same running i v plus_zero h ∙ e)
-
 -- Between two turns of a loop over count parts: those below i are closed, the others as before.
 pub record ClosedSo (count N at : ℕ) (running values₀ values : List Float) (i : ℕ) : Type 0 where
   pub low : i ≤ count
@@ -231,10 +164,7 @@ pub record ClosedSo (count N at : ℕ) (running values₀ values : List Float) (
   pub closed : Closed i N at running values₀ values
   pub others : (r : ℕ) → i ≤ r → part N values r ≡ part N values₀ r
 
--- before the first turn, and after one more
-pub closed_none : (count N at : ℕ) (running values : List Float) → ClosedSo count N at running values values 0
-closed_none count N at running values = record { low = omega arith; long = refl; closed = λ r h. absurd (not-suc-le-zero h); others = λ r h. refl }
-
+-- after one more turn
 pub closed_more : {count N at i : ℕ} {running values₀ values : List Float} → ClosedSo count N at running values₀ values i → i < count → at < N
     → (v : Float) → v ≡ get_or running i plus_zero → ClosedSo count N at running values₀ (set values (i * N + at) v) (i + 1)
 closed_more {N = N} {at} {i} {running} {values₀} {values} so h within v e = record {

@@ -86,12 +86,12 @@ module _ (A b : List Float) (limit : Float) (l : Link) (z : State) (c y x : List
   pub opens-y : (v : Float) → kind_of l.at.kind ≡ opens Y → v ≡ clean (get_or b (l.at.p - 1) plus_zero)
       → (f : Followed) → Takes (opened z 2 l.at.p z.running) (running_as v cell) f
   unfolding Run.step starting
-  opens-y v e is = with_running A b limit l z _ c y x y x cell v (λ going. rw e (going, ap (Run.opened from Y l.at.p) (sym is)))
+  opens-y v e is = with_running A b limit l z (opened z 2 l.at.p z.running) c y x y x cell v (λ going. rw e (going, ap (Run.opened from Y l.at.p) (sym is)))
 
   pub opens-x : (v : Float) → kind_of l.at.kind ≡ opens X → v ≡ entry from.tables Y l.at.p
       → (f : Followed) → Takes (opened z 3 l.at.p z.running) (running_as v cell) f
   unfolding Run.step starting
-  opens-x v e is = with_running A b limit l z _ c y x y x cell v (λ going. rw e (going, ap (Run.opened from X l.at.p) (sym is)))
+  opens-x v e is = with_running A b limit l z (opened z 3 l.at.p z.running) c y x y x cell v (λ going. rw e (going, ap (Run.opened from X l.at.p) (sym is)))
 
   module _ (named : number_of (table_of z.table) ≡ z.table) (rows : table_of z.table ≡ C → ⊥) where
     -- where a refusal stands
@@ -117,7 +117,7 @@ module _ (A b : List Float) (limit : Float) (l : Link) (z : State) (c y x : List
         → (f : Followed) → Takes (subtracted z false z.running) (if_going (Cells.subtracted place u v) cell) f
     unfolding Run.step
     subtracts_in t u v e left right =
-        if-going A b limit l z _ c y x y x cell (Cells.subtracted place u v)
+        if-going A b limit l z (subtracted z false z.running) c y x y x cell (Cells.subtracted place u v)
         (λ going. rw (e, ← left, ← right)
         (answer-leads (subtracted z false z.running) (less cell.running u v) (less (own z cell).running u v) (vanishes u v)
         (Run.subtracted from (vanishes u v)) (ap (λ r. less r u v) (own-running z cell rows)) (one_more (vanishes u v)) going))
@@ -127,7 +127,7 @@ module _ (A b : List Float) (limit : Float) (l : Link) (z : State) (c y x : List
         → (f : Followed) → Takes (divided_by z z.running) (if_going (Cells.divided place v) cell) f
     unfolding Run.step
     divides_in v e by =
-        if-going A b limit l z _ c y x y x cell (Cells.divided place v)
+        if-going A b limit l z (divided_by z z.running) c y x y x cell (Cells.divided place v)
         (λ going. rw (e, ← by)
         (answer-leads (divided_by z z.running) (quotient cell.running v) (quotient (own z cell).running v) false (Run.divided_by from)
         (ap (λ r. quotient r v) (own-running z cell rows)) (λ w. rw (not_first z rows, add-one)) going))

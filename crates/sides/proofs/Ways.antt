@@ -9,8 +9,8 @@ use Rattle.model.specs.Formula.{Table, C, Y, X}
 use Rattle.model.specs.Check.{Kind, opens, subtracts, divides, closes, closes_pivot, none, kind_of}
 use Rattle.model.proofs.Within.{within-range}
 use Rattle.state.specs.declared.State.{State}
-use Rattle.state.specs.States.{table_of, Sound, Allowed, WorksOn, works_in, ReadyInC}
-use Rattle.sides.specs.Standing.{alone, SidesReady, SoundInC, ReadyInRows}
+use Rattle.state.specs.States.{table_of, Allowed, WorksOn, works_in, ReadyInC}
+use Rattle.sides.specs.Standing.{alone, SidesReady, ReadyInRows}
 
 -- kind 1 works in C
 pub opens-c : (kind : ℕ) (u : Table) → kind ≡ 1 → works_in (kind_of kind) u ≡ C
@@ -112,7 +112,3 @@ module _ {count N la lb lc ly lx lr : ℕ} {out : List ℕ} {z : State} {kind p 
         };
         in_rows = in_rows;
       }
-
--- after a step on C the state is sound beside Y and X too
-pub sound-in-c : {lc N : ℕ} {z z' : State} → Sound lc N N z → SoundInC lc z z' → Sound lc N N z'
-sound-in-c sound after = record { named = after.named; in_c = after.in_c; in_y = omega arith; in_x = omega arith }

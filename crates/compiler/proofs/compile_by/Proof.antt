@@ -11,15 +11,11 @@ use Rattle.compiler.proofs.Compilers.{wanted-each, each-range}
 use Rattle.compiler.proofs.compile_by.Statement.{statement}
 use Rattle.compiler.proofs.compile_by.Tie as tie
 
--- Places of the code: past checks 1 to 4, with the entry before them.
-abbrev entry : tie.After-check → tie.Start
-entry c = c.before.before.before.before.before
-
 -- how they end in the model
-told : (c : tie.After-check) → let a = (entry c).args in
+told : (c : tie.After-check) → let a = c.args in
     orderly (wanted (compiler_of a.method) a.n) a.n a.plan.now (length a.work.now) ≡ labels_of c.check.result
 told c =
-    let a = (entry c).args in
+    let a = c.args in
     ap (λ k. orderly k a.n a.plan.now (length a.work.now)) (sym (wanted-each (compiler_of a.method) a.n c.each.ensures))
     ∙ sym c.check.ensures
 
@@ -36,10 +32,10 @@ enum_told-1 : tie.Need-enum_told-1
 enum_told-1 c = search rules
 
 compile_good-requires : tie.Need-compile_good-requires
-compile_good-requires c κs = told c.before.before.before.before ∙ ap labels_of c.enum_told-1.given.1
+compile_good-requires c κs = told c.before.before.before ∙ ap labels_of c.in-Good.is
 
 returns-in-Bad : tie.Need-returns-in-Bad
-returns-in-Bad c = ends-orderly _ _ _ _ _ _ _ (told c.before.before.before ∙ ap labels_of c.number-1.given.1)
+returns-in-Bad c = ends-orderly _ _ _ _ _ _ _ (told c.before ∙ ap labels_of c.in-Bad.is)
 
 shape_of-work : tie.Need-shape_of-work
 shape_of-work c = search rules

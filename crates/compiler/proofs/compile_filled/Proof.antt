@@ -13,34 +13,10 @@ use Rattle.compiler.proofs.Ending.{high, roomy, records_fit, none, short-ends, p
 use Rattle.compiler.proofs.compile_filled.Statement.{statement}
 use Rattle.compiler.proofs.compile_filled.Tie as tie
 
--- Places of the code: where the records are counted, with the entry before it, and past check 6.
-abbrev Counted : Type 0
-Counted = tie.After-record_count-records
+covers : (c : tie.After-wide-square) → c.wide-square.result ≤ length c.args.work.now
+covers c = omega (arith, c.wide-square.ensures, roomy c.requires.0.slotted, wanted-is (crout_of c.args.again) c.args.n)
 
-abbrev entry : Counted → tie.Start
-entry c = c.before.before.before.before.before.before
-
-abbrev counted : tie.Else-words-wide → Counted
-counted c = c.before.before
-
-abbrev squared : tie.After-wide-then-words-wide → tie.After-wide-square
-squared c = c.before.before.before
-
-abbrev short : tie.After-wide-square → tie.Then-words-wide
-short c = c.before
-
-abbrev counted-short : tie.Then-words-wide → Counted
-counted-short c = c.before.before
-
-ordered : (c : tie.Start) → c.args.n ≤ 600
-ordered c = high c.requires.0.slotted
-
-covers : (c : tie.After-wide-square) → let a = (entry (counted-short (short c))).args in c.wide-square.result ≤ length a.work.now
-covers c =
-    let e = entry (counted-short (short c)) in
-    omega (arith, c.wide-square.ensures, roomy e.pre.0.slotted, wanted-is (crout_of e.args.again) e.args.n)
-
-past : (c : tie.After-wide-then-words-wide) → let a = (entry (counted-short (short (squared c)))).args in c.wide-then-words-wide.result ≡ spare (crout_of a.again) a.n
+past : (c : tie.After-wide-then-words-wide) → let a = c.args in c.wide-then-words-wide.result ≡ spare (crout_of a.again) a.n
 past c = c.wide-then-words-wide.ensures ∙ c.spare.ensures
 
 record_count-records-requires : tie.Need-record_count-records-requires
@@ -54,7 +30,7 @@ overflow_mul-wide c = search rules
 
 overflow_mul-n : tie.Need-overflow_mul-n
 overflow_mul-n c =
-    let n = ordered (entry (counted-short c)) in
+    let n = high c.requires.0.slotted in
     omega (arith, mul-le-mul {n₂ = 600} {m₂ = 600} n n)
 
 wide-square-requires : tie.Need-wide-square-requires
@@ -73,24 +49,22 @@ slice_bounds-clear-end : tie.Need-slice_bounds-clear-end
 slice_bounds-clear-end c = search rules
 
 spare-requires : tie.Need-spare-requires
-spare-requires c κs = ordered (entry (counted-short (short c.before)))
+spare-requires c κs = high c.requires.0.slotted
 
 wide-requires-then-words-wide : tie.Need-wide-requires-then-words-wide
 wide-requires-then-words-wide c κs = search rules
 
 clear-requires : tie.Need-clear-requires
 clear-requires c κs =
-    let q = squared c in
-    let e = entry (counted-short (short q)) in
-    let work = e.args.work.now in
+    let work = c.args.work.now in
     omega (
       arith,
       past c,
-      q.wide-square.ensures,
-      roomy e.pre.0.slotted,
-      wanted-is (crout_of e.args.again) e.args.n,
-      ap length (whole_part q.wide-square.result work),
-      length-drop q.wide-square.result work,
+      c.wide-square.ensures,
+      roomy c.requires.0.slotted,
+      wanted-is (crout_of c.args.again) c.args.n,
+      ap length (whole_part c.wide-square.result work),
+      length-drop c.wide-square.result work,
     )
 
 overflow_cast-result : tie.Need-overflow_cast-result
@@ -101,17 +75,14 @@ shape_of-work-then-words-wide c = search rules
 
 returns-then-words-wide : tie.Need-returns-then-words-wide
 returns-then-words-wide c =
-    let d = c.before.before in
-    let q = squared d.before in
-    let r = counted-short (short q) in
-    λ before s. short-ends s (entry r).pre.1 _ _ r.record_count-records.ensures (search rules) q.wide-square.ensures (past d.before) d.clear.ensures
+    let cleared = past c.before.before.before in
+    λ before s. short-ends s c.requires.1 _ _ c.record_count-records.ensures (search rules) c.wide-square.ensures cleared c.clear.ensures
 
 write_compact-slots-requires : tie.Need-write_compact-slots-requires
 write_compact-slots-requires c κs =
-    let r = counted c.before.before.before in
-    let p = (entry r).pre in
-    let room = ap (λ b. wanted (crout_of b) (entry r).args.n) c.if-again.true in (
-      prepared p.0.slotted p.1 _ _ r.record_count-records.ensures (search rules),
+    let p = c.requires in
+    let room = ap (λ b. wanted (crout_of b) c.args.n) c.if-again.true in (
+      prepared p.0.slotted p.1 _ _ c.record_count-records.ensures (search rules),
       (none p.0.slotted p.1, omega (arith, roomy p.0.slotted, room)),
     )
 
@@ -123,17 +94,11 @@ shape_of-words-then-again c = search rules
 
 returns-then-again : tie.Need-returns-then-again
 returns-then-again c =
-    let w = c.before.before.before.before in
-    let again = w.before.before.before in
-    let r = counted again.before in
-    λ before s. compact_ends s (entry r).pre.1 _ _ r.record_count-records.ensures (search rules)
-    again.if-again.true w.write_compact-slots.ensures.0 w.write_compact-slots.ensures.1.1 w.write_compact-slots.ensures.1.0
+    let w = c.write_compact-slots.ensures in
+    λ before s. compact_ends s c.requires.1 _ _ c.record_count-records.ensures (search rules) c.if-again.true w.0 w.1.1 w.1.0
 
 write-requires : tie.Need-write-requires
-write-requires c κs =
-    let r = counted c.before.before in
-    let p = (entry r).pre in
-    prepared p.0.slotted p.1 _ _ r.record_count-records.ensures (search rules)
+write-requires c κs = prepared c.requires.0.slotted c.requires.1 _ _ c.record_count-records.ensures (search rules)
 
 shape_of-work : tie.Need-shape_of-work
 shape_of-work c = search rules
@@ -142,11 +107,7 @@ shape_of-words : tie.Need-shape_of-words
 shape_of-words c = search rules
 
 returns-3 : tie.Need-returns
-returns-3 c =
-    let w = c.before.before in
-    let once = w.before.before.before in
-    let r = counted once in
-    λ before s. plain-ends s (entry r).pre.1 _ _ r.record_count-records.ensures (search rules) once.if-again.false w.write.ensures
+returns-3 c = λ before s. plain-ends s c.requires.1 _ _ c.record_count-records.ensures (search rules) c.if-again.false c.write.ensures
 
 pub compile_filled_spec : {M : Type 1} → statement M
 compile_filled_spec =

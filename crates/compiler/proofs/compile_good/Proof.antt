@@ -9,19 +9,19 @@ enum_told-1 : tie.Need-enum_told-1
 enum_told-1 c = search rules
 
 compile_crout-requires : tie.Need-compile_crout-requires
-compile_crout-requires c κs = rw (ap compiler_of c.enum_told-1.given.1) at c.requires
+compile_crout-requires c κs = rw (ap compiler_of c.in-Plain.is) at c.requires
 
 enum_told-in-Compact : tie.Need-enum_told-in-Compact
 enum_told-in-Compact c = search rules
 
 compile_crout-requires-in-Compact : tie.Need-compile_crout-requires-in-Compact
-compile_crout-requires-in-Compact c κs = rw (ap compiler_of c.enum_told-in-Compact-1.given.1) at c.requires
+compile_crout-requires-in-Compact c κs = rw (ap compiler_of c.in-Compact.is) at c.requires
 
 enum_told-in-Sweep : tie.Need-enum_told-in-Sweep
 enum_told-in-Sweep c = search rules
 
 compile_rows-requires : tie.Need-compile_rows-requires
-compile_rows-requires c κs = rw (ap compiler_of c.enum_told-in-Sweep-1.given.1) at c.requires
+compile_rows-requires c κs = rw (ap compiler_of c.in-Sweep.is) at c.requires
 
 shape_of-work-in-Plain : tie.Need-shape_of-work-in-Plain
 shape_of-work-in-Plain c = search rules
@@ -31,8 +31,7 @@ shape_of-words-in-Plain c = search rules
 
 returns-in-Plain : tie.Need-returns-in-Plain
 returns-in-Plain c =
-    let d = c.before.before.before.before in
-    rw (ap compiler_of d.enum_told-1.given.1) d.compile_crout.ensures
+    rw (ap compiler_of c.in-Plain.is) c.compile_crout.ensures
 
 shape_of-work-in-Compact : tie.Need-shape_of-work-in-Compact
 shape_of-work-in-Compact c = search rules
@@ -42,8 +41,7 @@ shape_of-words-in-Compact c = search rules
 
 returns-in-Compact : tie.Need-returns-in-Compact
 returns-in-Compact c =
-    let d = c.before.before.before.before in
-    rw (ap compiler_of d.enum_told-in-Compact-1.given.1) d.compile_crout-in-Compact.ensures
+    rw (ap compiler_of c.in-Compact.is) c.compile_crout-in-Compact.ensures
 
 shape_of-work-in-Sweep : tie.Need-shape_of-work-in-Sweep
 shape_of-work-in-Sweep c = search rules
@@ -53,8 +51,7 @@ shape_of-words-in-Sweep c = search rules
 
 returns-in-Sweep : tie.Need-returns-in-Sweep
 returns-in-Sweep c =
-    let d = c.before.before.before.before in
-    rw (ap compiler_of d.enum_told-in-Sweep-1.given.1) d.compile_rows.ensures
+    rw (ap compiler_of c.in-Sweep.is) c.compile_rows.ensures
 
 pub compile_good_spec : {M : Type 1} → statement M
 compile_good_spec =

@@ -14,15 +14,12 @@ use Rattle.compiler.proofs.Compacted.{Alike, planned, compact_prepared, compact_
 use Rattle.compiler.proofs.write_compact.Statement.{statement}
 use Rattle.compiler.proofs.write_compact.Tie as tie
 
--- Places of the code: where the plain slots are copied and where slots are given, with the entry before them.
+-- Places of the code: where the plain slots are copied and where slots are given.
 abbrev Copied : Type 0
 Copied = tie.After-copy_past
 
 abbrev squared : Copied → tie.After-wide-square
 squared c = c.before.before
-
-abbrev entry : tie.After-wide-square → tie.Start
-entry c = c.before.before.before.before.before.before
 
 abbrev Assigned : Type 0
 Assigned = tie.After-assign-made
@@ -30,40 +27,36 @@ Assigned = tie.After-assign-made
 abbrev copied : Assigned → Copied
 copied c = c.before.before.before.before
 
-roomy : (c : tie.After-wide-square) → 4 * c.wide-square.result ≤ length (entry c).args.work.now
-roomy c = omega (arith, c.wide-square.ensures, (entry c).requires.1.1)
+roomy : (c : tie.After-wide-square) → 4 * c.wide-square.result ≤ length c.args.work.now
+roomy c = omega (arith, c.wide-square.ensures, c.requires.1.1)
 
 -- the part lent begins with the plain slots
-alike : (c : Copied) → let q = (squared c).wide.result in
-    Alike (entry (squared c)).args.n (entry (squared c)).args.work.now (part_of q (4 * q) c.copy_past.new.0)
-alike c = let s = squared c in record { same = λ k below. part-first _ _ _ (roomy s) c.copy_past.ensures k (omega (arith, s.wide-square.ensures)) }
+alike : (c : Copied) → let q = c.wide-square.result in Alike c.args.n c.args.work.now (part_of q (4 * q) c.copy_past.new.work)
+alike c = record { same = λ k below. part-first _ _ _ (roomy (squared c)) c.copy_past.ensures k (omega (arith, c.wide-square.ensures)) }
 
 -- the slots given
 abbrev slots : Assigned → List ℕ
-slots c = c.assign-made.new.1.1.0
+slots c = c.assign-made.new.given
 
-given : (c : Assigned) → let a = (entry (squared (copied c))).args in Given a.n a.plan.now (slots c) c.assign-made.result
-given c = let e = entry (squared (copied c)) in c.assign-made.ensures _ (planned e.pre.0 e.pre.1.0 (alike (copied c)))
+given : (c : Assigned) → let a = c.args in Given a.n a.plan.now (slots c) c.assign-made.result
+given c = c.assign-made.ensures _ (planned c.requires.0 c.requires.1.0 (alike (copied c)))
 
-count : (c : Assigned) → length (slots c) ≡ 3 * (squared (copied c)).wide-square.result
-count c = let k = copied c in omega (arith, part_length _ _ _ (roomy (squared k)) k.copy_past.ensures)
+count : (c : Assigned) → length (slots c) ≡ 3 * c.wide-square.result
+count c = omega (arith, part_length _ _ _ (roomy (squared (copied c))) c.copy_past.ensures)
 
 -- the work numbers with the slots given in them
 abbrev after : Assigned → List ℕ
-after c = let k = copied c in let q = (squared k).wide.result in with_part q (4 * q) k.copy_past.last.0 (slots c)
+after c = let q = c.wide-square.result in with_part q (4 * q) c.copy_past.new.work (slots c)
 
 -- and the part that the writer reads, with those given
-alike_past : (c : Assigned) → let s = squared (copied c) in
-    Alike (entry s).args.n (slots c) (part_of s.wide-square.result (length (after c)) (after c))
+alike_past : (c : Assigned) → Alike c.args.n (slots c) (part_of c.wide-square.result (length (after c)) (after c))
 alike_past c =
-    let k = copied c in
-    let s = squared k in
-    record { same = λ i below. given-past _ _ _ (roomy s) k.copy_past.ensures (slots c) (count c) i (omega (arith, s.wide-square.ensures)) }
+    let s = squared (copied c) in
+    record { same = λ i below. given-past _ _ _ (roomy s) c.copy_past.ensures (slots c) (count c) i (omega (arith, c.wide-square.ensures)) }
 
 overflow_mul-n : tie.Need-overflow_mul-n
 overflow_mul-n c =
-    let e = c.before.before.before.before.before in
-    let n = (within-range e.args.n 600 e.requires.0.order).1 in
+    let n = (within-range c.args.n 600 c.requires.0.order).1 in
     omega (arith, mul-le-mul {n₂ = 600} {m₂ = 600} n n)
 
 wide-square-requires : tie.Need-wide-square-requires
@@ -90,12 +83,10 @@ slice_bounds-assign-end c = search rules
 assign-made-requires : tie.Need-assign-made-requires
 assign-made-requires c κs =
     let k = c.before.before.before in
-    let s = squared k in
-    let e = entry s in
     record {
-      plan = e.args.plan.now;
-      planned = planned e.pre.0 e.pre.1.0 (alike k);
-      count = omega (arith, s.wide-square.ensures, part_length e.args.work.now _ _ (roomy s) k.copy_past.ensures);
+      plan = c.args.plan.now;
+      planned = planned c.requires.0 c.requires.1.0 (alike k);
+      count = omega (arith, c.wide-square.ensures, part_length c.args.work.now _ _ (roomy (squared k)) c.copy_past.ensures);
     }
 
 offset_bounds-work-square-2 : tie.Need-offset_bounds-work-square-2
@@ -112,12 +103,9 @@ slice_bounds-write-end c = search rules
 
 write-requires : tie.Need-write-requires
 write-requires c κs =
-    let d = c.before.before.before.before.before in
-    let k = copied d in
-    let s = squared k in
-    let p = (entry s).pre in
-    let covers = past-covers _ _ _ (roomy s) k.copy_past.ensures (slots d) (count d) in
-    compact_prepared p.0 p.1.0 (given d) (alike_past d) (omega (arith, covers, s.wide-square.ensures))
+    let d = c.before.before.before.before in
+    let covers = past-covers _ _ _ (roomy (squared (copied d))) c.copy_past.ensures (slots d) (count d) in
+    compact_prepared c.requires.0 c.requires.1.0 (given d) (alike_past d) (omega (arith, covers, c.wide-square.ensures))
 
 offset_bounds-work-square-3 : tie.Need-offset_bounds-work-square-3
 offset_bounds-work-square-3 c = search rules
@@ -145,17 +133,13 @@ shape_of-words c = search rules
 
 returns : tie.Need-returns
 returns c =
-    let w = c.before.before.before.before.before.before in
-    let d = w.before.before.before.before.before.before in
-    let k = copied d in
-    let s = squared k in
-    let e = entry s in
-    let work = e.args.work.now in
-    let cleared = cleared-past work _ _ (roomy s) k.copy_past.ensures (slots d) (count d) c.clear.ensures in (
+    let d = c.before.before.before.before.before.before.before.before.before.before.before in
+    let work = c.args.work.now in
+    let cleared = cleared-past work _ _ (roomy (squared (copied d))) c.copy_past.ensures (slots d) (count d) c.clear.ensures in (
       (given d).slots-are,
       (
-        compact_written e.pre.0 e.pre.1.0 (given d) (alike_past d) w.write.ensures,
-        cleared ∙ ap (λ q. take q work ++ (replicate (3 * q) 0 ++ drop (4 * q) work)) s.wide-square.ensures,
+        compact_written c.requires.0 c.requires.1.0 (given d) (alike_past d) c.write.ensures,
+        cleared ∙ ap (λ q. take q work ++ (replicate (3 * q) 0 ++ drop (4 * q) work)) c.wide-square.ensures,
       ),
     )
 

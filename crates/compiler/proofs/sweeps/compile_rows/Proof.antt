@@ -9,29 +9,17 @@ use Rattle.compiler.proofs.Sweeping.{Placed, covers, labels-few, bare_ends, labe
 use Rattle.compiler.proofs.sweeps.compile_rows.Statement.{statement}
 use Rattle.compiler.proofs.sweeps.compile_rows.Tie as tie
 
--- Places of the code: where the plan is marked, with the entry before it, where the first bare row is sought, and past checks 26 and 6.
-abbrev entry : tie.After-mark → tie.Start
-entry c = c.before.before.before.before.before
-
+-- Places of the code: where the plan is marked, seen from where the first bare row is sought.
 abbrev Sought : Type 0
 Sought = tie.After-first_bare-bare
 
 abbrev marked : Sought → tie.After-mark
 marked c = c.before.before.before
 
-abbrev sought : tie.Then-bare-ne0 → Sought
-sought c = c.before
+placed : (c : tie.After-mark) → let a = c.args in Placed a.n a.plan.now a.work.now c.mark.new.work
+placed c = record { passed = c.requires; marked = c.mark.ensures }
 
-abbrev Complete : Type 0
-Complete = tie.Else-bare-ne0
-
-abbrev complete : tie.Else-words-wide → Complete
-complete c = c.before.before
-
-placed : (c : tie.After-mark) → let a = (entry c).args in Placed a.n a.plan.now a.work.now c.mark.new.1.1.0
-placed c = record { passed = (entry c).requires; marked = c.mark.ensures }
-
-few : (c : Sought) → let a = (entry (marked c)).args in (a.n * a.n ≤ 360000) × (length a.plan.now ≤ 360000)
+few : (c : Sought) → let a = c.args in (a.n * a.n ≤ 360000) × (length a.plan.now ≤ 360000)
 few c = labels-few (placed (marked c))
 
 mark-requires : tie.Need-mark-requires
@@ -41,13 +29,13 @@ first_bare-bare-requires : tie.Need-first_bare-bare-requires
 first_bare-bare-requires c κs = covers (placed c.before.before)
 
 overflow_mul-n : tie.Need-overflow_mul-n
-overflow_mul-n c = omega (arith, few (sought c.before))
+overflow_mul-n c = omega (arith, few c.before.before)
 
 wide-requires : tie.Need-wide-requires
 wide-requires c κs = search rules
 
 clear-requires : tie.Need-clear-requires
-clear-requires c κs = omega (arith, c.wide.ensures, covers (placed (marked (sought c.before.before))))
+clear-requires c κs = omega (arith, c.wide.ensures, covers (placed (marked c.before.before.before)))
 
 overflow_cast-result : tie.Need-overflow_cast-result
 overflow_cast-result c = search rules
@@ -57,11 +45,8 @@ shape_of-work-then-bare-ne0 c = search rules
 
 returns-then-bare-ne0 : tie.Need-returns-then-bare-ne0
 returns-then-bare-ne0 c =
-    let cleared = c.before.before in
-    let w = cleared.before in
-    let gone = w.before.before in
-    let s = sought gone in
-    bare_ends (placed (marked s)) s.first_bare-bare.ensures _ gone.if-bare-ne0.true w.wide.ensures cleared.clear.ensures
+    let s = c.before.before.before.before.before.before in
+    bare_ends (placed (marked s)) c.first_bare-bare.ensures _ c.if-bare-ne0.true c.wide.ensures c.clear.ensures
 
 overflow_cast-labels : tie.Need-overflow_cast-labels
 overflow_cast-labels c = omega (arith, few c.before)
@@ -89,26 +74,21 @@ shape_of-work-then-words-wide c = search rules
 
 returns-then-words-wide : tie.Need-returns-then-words-wide
 returns-then-words-wide c =
-    let k = c.before.before in
-    let s = k.before in
-    short_sweep (placed (marked s)) s.first_bare-bare.ensures k.if-bare-ne0.false _ (omega arith)
+    short_sweep (placed (marked c.before.before.before)) c.first_bare-bare.ensures c.if-bare-ne0.false _ (omega arith)
 
 -- the words are enough
-enough : (c : tie.Else-words-wide) → let a = (entry (marked (complete c).before)).args in 4 * records_by sweep a.n a.plan.now ≤ length a.words.now
+enough : (c : tie.Else-words-wide) → let a = c.args in 4 * records_by sweep a.n a.plan.now ≤ length a.words.now
 enough c = omega arith
 
 write_rows-requires : tie.Need-write_rows-requires
 write_rows-requires c κs =
-    let e = c.before.before in
-    let k = complete e in
-    let s = k.before in
-    rows-planned (placed (marked s)) s.first_bare-bare.ensures k.if-bare-ne0.left _ (enough e)
+    let e = c.before in
+    rows-planned (placed (marked e.before.before.before)) c.first_bare-bare.ensures c.if-bare-ne0.false _ (enough e)
 
 overflow_sub-result : tie.Need-overflow_sub-result
 overflow_sub-result c =
-    let k = complete c.before.before.before.before in
-    let s = k.before in
-    omega (arith, labels_enough (placed (marked s)) s.first_bare-bare.ensures k.if-bare-ne0.left)
+    let s = c.before.before.before.before.before.before.before in
+    omega (arith, labels_enough (placed (marked s)) c.first_bare-bare.ensures c.if-bare-ne0.false)
 
 shape_of-work : tie.Need-shape_of-work
 shape_of-work c = search rules
@@ -118,11 +98,8 @@ shape_of-words c = search rules
 
 returns-3 : tie.Need-returns
 returns-3 c =
-    let w = c.before.before in
-    let e = w.before.before.before in
-    let k = complete e in
-    let s = k.before in
-    sweep_ends (placed (marked s)) s.first_bare-bare.ensures k.if-bare-ne0.left _ (enough e) w.write_rows.ensures
+    let e = c.before.before.before.before in
+    sweep_ends (placed (marked e.before.before.before)) c.first_bare-bare.ensures c.if-bare-ne0.false _ (enough e) c.write_rows.ensures
 
 pub compile_rows_spec : {M : Type 1} → statement M
 compile_rows_spec =
