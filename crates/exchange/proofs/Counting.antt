@@ -1,4 +1,4 @@
--- The count along two lines: where it stands, one place more, and its end.
+-- The count along two lines: where it stands, one place more, and how small both counts are.
 use Prim.Native.Nat.{ℕ, suc, ◌+◌, ◌-◌, ◌*◌, ◌≤◌, ◌<◌}
 use native.Mathlib.Nat.{mul-le-mul}
 use native.Mathlib.Omega.{arith}
@@ -59,7 +59,7 @@ module _ {N : ℕ} {L : Plan} {p : Numbering} {work in_rows in_columns : List �
   P = renumbered N L p
 
   -- the pivots' labels are small
-  pub pivots_small : (label N t t ≤ 360000) × (1 ≤ label N t t) × (label N (suc t) (suc t) ≤ 360000) × (1 ≤ label N (suc t) (suc t)) × (N ≤ 600)
+  pivots_small : (label N t t ≤ 360000) × (1 ≤ label N t t) × (label N (suc t) (suc t) ≤ 360000) × (1 ≤ label N (suc t) (suc t)) × (N ≤ 600)
   pivots_small =
       let high = s.stands.high in
       let square = mul-le-mul {n₂ = 600} {m₂ = 600} high high in
@@ -151,19 +151,6 @@ module _ {N : ℕ} {L : Plan} {p : Numbering} {work in_rows in_columns : List �
                 ∙ ap (λ n. n + pair (second_line N P t across (suc k)) (first_line N P t across (suc k)) (linked N P t (not across))) c.after_is
                 ∙ up_to_more (second_line N P t across) (first_line N P t across) (linked N P t (not across)) t k c.low;
           })
-
-    pub count-end : N ≤ k → Counts N P t across (record { before = before; after = after })
-    count-end done =
-        let all : k ≡ N = omega (arith, c.high) in
-        record {
-          before_is = c.before_is ∙ whole (first_line N P t across) (second_line N P t across) (linked N P t across) k all;
-          after_is = c.after_is ∙ whole (second_line N P t across) (first_line N P t across) (linked N P t (not across)) k all;
-        }
-      where
-        whole : (first second : ℕ → Bool) (link : Bool) (k : ℕ) → k ≡ N → up_to first second link t k ≡ pairs N (t - 1) first second link
-        whole first second link k e =
-            let one : suc (t - 1) ≡ t = omega (arith, near.0) in
-            rw (one, e)
 
 -- both counts are small
 pub counts_few : {N : ℕ} {P : Plan} {t : ℕ} {across : Bool} {r : Past} → N ≤ 600 → Counts N P t across r → (r.before ≤ 1200) × (r.after ≤ 1200)

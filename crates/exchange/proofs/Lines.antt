@@ -68,13 +68,6 @@ module _ {N : ℕ} {L : Plan} {p : Numbering} {work in_rows in_columns : List �
           sym (reach_between N P (t - 1) i j (omega (arith, b.row-past)) (omega (arith, b.column-past)) b.inside (filled e).free b.holds
           ∙ ap (ltb (middle N P i j)) one)
 
-    -- ---- whether they are linked
-
-    pub link-held : (across : Bool) {b : Bool} {i j : ℕ} → i ≡ row_of across (suc t) t → j ≡ column_of across (suc t) t
-        → b ≡ ltb 0 (get_or work (label N i j - 1) 0) → b ≡ linked N P t across
-    link-held across row column e =
-        e ∙ (rw (row, column) (s.stands.stands _ _ (line-inside N across (suc t) t (omega arith) near.1 near.0 (omega (arith, near.1)))))
-
     -- ---- the pivot of t + 1
 
     pub pivot_beyond : {i : ℕ} → i ≡ suc t → Beyond N P t i i

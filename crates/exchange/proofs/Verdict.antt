@@ -1,11 +1,11 @@
 -- What the counts decide: whether a trial keeps the exchange.
-use Prim.Native.Nat.{ℕ, suc, ◌+◌, ◌-◌, ◌≤◌, ◌<◌}
+use Prim.Native.Nat.{ℕ, suc, ◌+◌, ◌-◌, ◌<◌}
 use native.Mathlib.Omega.{arith}
 use mathlib.Core.Path.{◌≡◌, sym, ap, ap₂, ◌∙◌}
 use mathlib.Core.Bool.{Bool, true, false, cond, not, ◌&&◌}
 use mathlib.Core.List.{List}
 use lib.Dec.{ltb}
-use Rattle.model.specs.Fill.{Plan, held}
+use Rattle.model.specs.Fill.{Plan}
 use Rattle.model.specs.Numbering.{Numbering, renumbered, exchanged, tried}
 use Rattle.model.proofs.Reach.{reach}
 use Rattle.model.proofs.Exchanged.{pairs}
