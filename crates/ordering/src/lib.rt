@@ -1,5 +1,6 @@
 // A better numbering of rows and columns, by exchanges of neighbours that leave fewer slots. Document 02, A.12.
 #![tactic(auto)]
+
 ghost use Rattle.std.specs.Prelude.{◌≡◌, true, cond, suc, ◌*◌, ◌≤◌, ◌<◌, ltb, length, drop};
 ghost use Rattle.model.specs.Label.{is_order};
 ghost use Rattle.model.specs.Compile.{judged, good, orderly};
