@@ -3,7 +3,7 @@ use Prim.Native.Nat.{ℕ, ◌-◌, ◌*◌}
 use native.Mathlib.Nat.{one-mul}
 use mathlib.Core.Path.{◌≡◌, sym, ap, ap₂, ◌∙◌}
 use mathlib.Core.List.{List, ◌++◌}
-use lib.ListN.{length, take, drop, replicate, take-append-drop}
+use lib.ListN.{length, drop, replicate, take-append-drop}
 use Rattle.model.specs.Fill.{Plan, missing, slots}
 use Rattle.model.specs.Compile.{good, orderly, slot_numbers}
 use Rattle.model.specs.Numbering.{Numbering, numbered, refused, given_numbering, renumbered, after_trials, trials_made, kept_numbering}

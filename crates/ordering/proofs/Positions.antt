@@ -4,14 +4,11 @@ use native.Mathlib.Decide.{ℕ_discrete}
 use native.Mathlib.Omega.{arith}
 use mathlib.Core.Path.{◌≡◌, sym, ap, ◌∙◌}
 use mathlib.Core.List.{List}
-use lib.ListN.{length, length-set, get_or, set}
+use lib.ListN.{length-set, get_or, set}
 use lib.Seq.{get_or-set_same, get_or-set_other}
 use Rattle.model.specs.Numbering.{Numbering, given_at, IsNumbering}
 use Rattle.model.proofs.Permutation.{given-range, entries_differ, given_onto}
 use Rattle.ordering.specs.Numbered.{Inverse, Ranged}
-
-pub none-noted : {p : Numbering} {positions : List ℕ} → length positions ≡ 601 → Inverse p 0 positions
-none-noted e = record { size = e; noted = λ a h. absurd (omega arith) }
 
 module _ {N : ℕ} {p : Numbering} (n : IsNumbering N p) where
   pub entry-range : (k : ℕ) → k < N → (1 ≤ get_or p k 0) × (get_or p k 0 ≤ N)

@@ -3,7 +3,7 @@ use Prim.Native.Nat.{ℕ, suc, ◌+◌, ◌-◌, ◌*◌, ◌≤◌, ◌<◌}
 use native.Mathlib.Omega.{arith}
 use mathlib.Core.Path.{◌≡◌, refl, sym, ap, ◌∙◌}
 use mathlib.Core.Bool.{Bool, true, false, cond}
-use mathlib.Core.List.{List, ◌++◌}
+use mathlib.Core.List.{List}
 use borrow.Author.Tests.{ltb-false}
 use lib.Dec.{ltb}
 use lib.ListN.{take, drop}
@@ -18,22 +18,7 @@ use Rattle.model.proofs.Trials.{Kept, Idle, trial_stays, after_more, idle-none, 
 use Rattle.slots.specs.Walked.{FillsPlan}
 use Rattle.slots.specs.declared.Filled.{Filled}
 use Rattle.plans.proofs.Standing.{slots_stand}
-use Rattle.exchange.specs.Stood.{Stood, Neighbours}
-use Rattle.ordering.specs.Numbered.{Numbered, MarksAnew}
-
--- filling marks is filling what stood there before
-pub filled_since : {N : ℕ} {P : Plan} {before marks work in_rows in_columns : List ℕ} {r : Filled} → MarksAnew N P before marks
-    → FillsPlan N P marks work in_rows in_columns r → FillsPlan N P before work in_rows in_columns r
-filled_since {N} {P} m f = record {
-  slots-are = f.slots-are;
-  products-are = f.products-are;
-  above-are = f.above-are;
-  missing_is = f.missing_is;
-  written = f.written ∙ ap (λ w. slot_numbers N P ++ w) m.rest;
-  row_count = f.row_count;
-  column-count = f.column-count;
-  skips = f.skips;
-}
+use Rattle.ordering.specs.Numbered.{Numbered}
 
 pub filled-rest : {N : ℕ} {P : Plan} {before work in_rows in_columns : List ℕ} {r : Filled} → FillsPlan N P before work in_rows in_columns r
     → drop (N * N) work ≡ drop (N * N) before
@@ -53,11 +38,8 @@ module _ {N : ℕ} {L : Plan} {p : Numbering} {before work in_rows in_columns : 
     slots-are = fills.slots-are;
   }
 
--- a trial that keeps nothing, and one that keeps the exchange
+-- a trial that keeps the exchange
 module _ (N : ℕ) (L : Plan) (t : ℕ) (p : Numbering) (b : Bool) (decided : tried N L t p ≡ cond b (exchanged p t) p) where
-  pub kept_as_was : b ≡ false → p ≡ tried N L t p
-  kept_as_was e = sym (decided ∙ ap (λ b. cond b (exchanged p t) p) e)
-
   pub kept-exchanged : {q : Numbering} → b ≡ true → q ≡ exchanged p t → q ≡ tried N L t p
   kept-exchanged e f = f ∙ sym (decided ∙ ap (λ b. cond b (exchanged p t) p) e)
 
