@@ -1,2 +1,2 @@
--- The laws that the proofs of `answers` share.
+-- The laws on answers that the exported functions' proofs share.
 pub mod Numbers

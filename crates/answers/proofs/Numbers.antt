@@ -1,8 +1,7 @@
--- Answers as numbers: what the proofs of the answering functions and of the exported ones share.
+-- Answers as numbers: what the proofs of the exported functions share.
 use Prim.Native.Nat.{ℕ, ◌≤◌, ◌<◌, ◌^◌}
-use mathlib.Core.Path.{◌≡◌, refl, ap, ◌∙◌}
-use mathlib.Core.List.{List, [], ◌∷◌}
-use lib.ListN.{get_or}
+use mathlib.Core.Path.{◌≡◌, ap, ◌∙◌}
+use mathlib.Core.List.{List}
 use native.Mathlib.Omega.{arith}
 use Rattle.model.specs.Check as Check
 use Rattle.model.specs.Check.{Verdict, fine}
@@ -15,19 +14,13 @@ use Rattle.model.specs.Dearest as Dearest
 use Rattle.model.specs.Dearest.{Costs, yes, no}
 use Rattle.model.specs.Numbering as Numbering
 use Rattle.model.specs.Numbering.{Renumbering, numbered}
-use Rattle.model.specs.Boundary.{costs_number, renumbering_number, verdict_number, compiled_number, filed_number, reply_number, reply_numbers, limit_numbers}
+use Rattle.model.specs.Boundary.{costs_number, renumbering_number, verdict_number, compiled_number, filed_number, reply_number}
 use Rattle.model.proofs.Small.{SmallVerdict, SmallCompiled, SmallFiled, SmallReply, SmallCosts, SmallRenumbering}
 
--- an answer's number and its further numbers are those of what it equals: of the case that a match found, or of the model's value
+-- an answer's number and its further numbers are those of the model's value that it equals
 pub carried : {A : Type 0} (number : A → ℕ) (numbers : A → List ℕ) {a b : A} {r : ℕ} {out : List ℕ}
     → a ≡ b → (r ≡ number a) × (out ≡ numbers a) → (r ≡ number b) × (out ≡ numbers b)
 carried number numbers same (r, out) = (r ∙ ap number same, out ∙ ap numbers same)
-
--- release 1's three numbers of a run are the first two of the four, and 0
-pub first_two : (v : Reply) → get_or (limit_numbers v) 0 0 ∷ get_or (limit_numbers v) 1 0 ∷ 0 ∷ [] ≡ reply_numbers v
-first_two (solves p q g k) = refl
-first_two (stops r k t n) = refl
-first_two (refuses r d) = refl
 
 -- the number of an answer that is a small value of the model fits 64 bits
 pub verdict-fits : {b : ℕ} {answer v : Verdict} → answer ≡ v → SmallVerdict b v → b ≤ 2 ^ 63 → verdict_number answer < 2 ^ 64
