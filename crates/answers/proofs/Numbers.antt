@@ -1,7 +1,6 @@
 -- Answers as numbers: what the proofs of the exported functions share.
 use Prim.Native.Nat.{ℕ, ◌≤◌, ◌<◌, ◌^◌}
-use mathlib.Core.Path.{◌≡◌, ap, ◌∙◌}
-use mathlib.Core.List.{List}
+use mathlib.Core.Path.{◌≡◌}
 use native.Mathlib.Omega.{arith}
 use Rattle.model.specs.Check as Check
 use Rattle.model.specs.Check.{Verdict, fine}
@@ -16,11 +15,6 @@ use Rattle.model.specs.Numbering as Numbering
 use Rattle.model.specs.Numbering.{Renumbering, numbered}
 use Rattle.model.specs.Boundary.{costs_number, renumbering_number, verdict_number, compiled_number, filed_number, reply_number}
 use Rattle.model.proofs.Small.{SmallVerdict, SmallCompiled, SmallFiled, SmallReply, SmallCosts, SmallRenumbering}
-
--- an answer's number and its further numbers are those of the model's value that it equals
-pub carried : {A : Type 0} (number : A → ℕ) (numbers : A → List ℕ) {a b : A} {r : ℕ} {out : List ℕ}
-    → a ≡ b → (r ≡ number a) × (out ≡ numbers a) → (r ≡ number b) × (out ≡ numbers b)
-carried number numbers same (r, out) = (r ∙ ap number same, out ∙ ap numbers same)
 
 -- the number of an answer that is a small value of the model fits 64 bits
 pub verdict-fits : {b : ℕ} {answer v : Verdict} → answer ≡ v → SmallVerdict b v → b ≤ 2 ^ 63 → verdict_number answer < 2 ^ 64
