@@ -63,7 +63,7 @@ module _ (W : List ℕ) (count : ℕ) (A B : List Float) (limit : Float) (out₀
     pub way : Way out links last next
 
 -- the next record and the number of those that are done stand within the words, which are few
-pub record Within (W : List ℕ) (records next : ℕ) : Type 0 where
+pub record InWords (W : List ℕ) (records next : ℕ) : Type 0 where
   pub comes : next < length W / 4
   pub made : records < length W / 4
   pub few : length W / 4 ≤ 100000000
@@ -346,10 +346,10 @@ module _ {W : List ℕ} {count : ℕ} {A B : List Float} {limit : Float} {out₀
       pub turned_over : any_going count out' ≡ false → Turn W count A B limit out₀ c' y' x' running' out' z' (records + 1) 0
       turned_over none = turned (over none refl (read-over t.done goes_on.0 follows_some done-after none))
 
-  -- in every turn both do, 0 too, which stands for no next record
-  pub within : {c y x running : List Float} {out : List ℕ} {z : State} {records next : ℕ}
-      → Turn W count A B limit out₀ c y x running out z records next → Within W records next
-  within {next = next} t = record {
+  -- in every turn the next record and the number of those done stand within the words; a next record 0 stands for none
+  pub in_words : {c y x running : List Float} {out : List ℕ} {z : State} {records next : ℕ}
+      → Turn W count A B limit out₀ c y x running out z records next → InWords W records next
+  in_words {next = next} t = record {
     comes = by (eqb next 0) refl;
     made = omega (arith, t.counts, t.done.seen.few, t.done.inside);
     few = few-records t.done.fit;

@@ -1,7 +1,7 @@
 -- `many::pass`: how the loop starts, goes on after a step, or ends.
 use native.Mathlib.Omega.{arith}
 use mathlib.Core.Path.{sym, ◌∙◌}
-use Rattle.many.proofs.Passing.{some_words, starts, within, ready, turned_on, turned_over, ended}
+use Rattle.many.proofs.Passing.{some_words, starts, in_words, ready, turned_on, turned_over, ended}
 use Rattle.many.proofs.pass.Goals as goal
 
 pub bounds-words-0 : goal.bounds-words-0
@@ -14,7 +14,7 @@ pub loop-next-init : goal.loop-next-init
 loop-next-init c =
     let p = c.requires in
     let turn = starts p.fit_many p.running_len.0 p.running_len.1 c.fresh-z.ensures c.wide-next.ensures in
-    record { order = c.wide-order.ensures; turn = turn; within = within turn }
+    record { order = c.wide-order.ensures; turn = turn; inside = in_words turn }
 
 pub step-z-requires : goal.step-z-requires
 step-z-requires c = ready c.loop-next.invariant.turn c.loop-next-test.true c.loop-next.invariant.order
@@ -26,7 +26,7 @@ loop-next-preserved-then-any_going c =
     let kept = c.step-z.auto in
     let turn = turned_on i.turn c.loop-next-test.true i.order (record { of_c = kept.c; of_y = kept.y; of_x = kept.x }) kept.running kept.out
     e.steps e.sound.0 e.sound.1 (sym c.any_going.ensures ∙ c.if-any_going.true) c.wide-next-then-any_going.ensures in
-    record { order = i.order; turn = turn; within = within turn }
+    record { order = i.order; turn = turn; inside = in_words turn }
 
 pub loop-next-preserved : goal.loop-next-preserved
 loop-next-preserved c =
@@ -35,7 +35,7 @@ loop-next-preserved c =
     let kept = c.step-z.auto in
     let turn = turned_over i.turn c.loop-next-test.true i.order (record { of_c = kept.c; of_y = kept.y; of_x = kept.x }) kept.running kept.out
     e.steps e.sound.0 e.sound.1 (sym c.any_going.ensures ∙ c.if-any_going.false) in
-    record { order = i.order; turn = turn; within = within turn }
+    record { order = i.order; turn = turn; inside = in_words turn }
 
 pub returns : goal.returns
 returns c = ended c.loop-next.invariant.turn c.loop-next-test.false
