@@ -1,4 +1,4 @@
--- The rows of words, one lent and back; and where no value is other than finite.
+-- The rows of words: one lent and back, those that have started, and what they hold label by label; and where no value is other than finite.
 use Prim.Native.Nat.{ℕ, zero, suc, ◌+◌, ◌-◌, ◌*◌, ◌^◌, ◌≤◌, ◌<◌}
 use native.Mathlib.Nat.{le-suc_iff}
 use native.Mathlib.Omega.{arith}
@@ -31,6 +31,10 @@ all_finite p (v ∷ vs) e (suc k) h = all_finite (suc p) vs (finite_cons (suc p)
 
 pub rows_same : {N : ℕ} {z w : ℕ → ℤ} {words : List ℕ} → ((r : ℕ) → z r ≡ w r) → HeldRows N z words → HeldRows N w words
 rows_same {words = words} same h = record { long = h.long; each = λ r l. rw (sym (same (suc r))) (h.each r l) }
+
+-- what is lent of a row has 66 words
+pub whole_row : (r : ℕ) → r * 66 + 66 - r * 66 ≡ 66
+whole_row r = omega arith
 
 module _ {N : ℕ} {z : ℕ → ℤ} {words : List ℕ} (rows : HeldRows N z words) (r m : ℕ) (whole : m ≡ 66) (below : r < N) where
   -- row r + 1 is lent

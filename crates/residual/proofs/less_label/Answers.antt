@@ -1,15 +1,11 @@
 -- `residual::less_label` finds the label's place, and takes the product from its row.
-use Prim.Native.Nat.{ℕ, suc, ◌+◌, ◌-◌, ◌*◌, ◌<◌}
+use Prim.Native.Nat.{suc, ◌<◌}
 use native.Mathlib.Omega.{arith}
 use mathlib.Core.Path.{◌≡◌, sym, ap, ◌∙◌}
 use Rattle.model.specs.Label.{place}
 use Rattle.model.proofs.Labels.{place_of_label}
-use Rattle.residual.proofs.Labelled.{row_lent, label-taken}
+use Rattle.residual.proofs.Labelled.{whole_row, row_lent, label-taken}
 use Rattle.residual.proofs.less_label.Goals as goal
-
--- a row has 66 words
-whole : (r : ℕ) → r * 66 + 66 - r * 66 ≡ 66
-whole r = omega arith
 
 pub returns : goal.returns
 returns c =
@@ -20,5 +16,5 @@ returns c =
     let below : r < c.args.n = omega (arith, c.wide-first.ensures, inside.row_low, inside.row-high) in
     let at = ap (place _) (sym p.ensures.1) ∙ place_of_label _ _ _ inside ∙ ap (λ r. (r, p.result.column)) (sym row) in
     let column : c.wide.result < c.args.n = omega (arith, c.wide.ensures, inside.column-low, inside.column-high) in
-    λ z h. label-taken h r _ (whole r) below c.args.x.now c.args.label p.result.column c.wide.result c.args.a c.less_product.new.row at c.wide.ensures
-    (omega (arith, column, c.requires.finite.1)) (c.less_product.ensures _ (row_lent h r _ (whole r) below))
+    λ z h. label-taken h r _ (whole_row r) below c.args.x.now c.args.label p.result.column c.wide.result c.args.a c.less_product.new.row at c.wide.ensures
+    (omega (arith, column, c.requires.finite.1)) (c.less_product.ensures _ (row_lent h r _ (whole_row r) below))

@@ -1,14 +1,8 @@
 -- `residual::start_rows`: the next row starts, and all have in the end.
-use Prim.Native.Nat.{ℕ, ◌+◌, ◌-◌, ◌*◌}
 use native.Mathlib.Numerals.{add-one}
 use native.Mathlib.Omega.{arith}
-use mathlib.Core.Path.{◌≡◌}
-use Rattle.residual.proofs.Labelled.{started_more, started_all, lent_length}
+use Rattle.residual.proofs.Labelled.{whole_row, started_more, started_all, lent_length}
 use Rattle.residual.proofs.start_rows.Goals as goal
-
--- a row has 66 words
-whole : (r : ℕ) → r * 66 + 66 - r * 66 ≡ 66
-whole r = omega arith
 
 pub loop-r-init : goal.loop-r-init
 loop-r-init c = record { started = record { long = c.requires.2; each = λ i h. absurd (omega arith) }; within = omega arith }
@@ -16,13 +10,13 @@ loop-r-init c = record { started = record { long = c.requires.2; each = λ i h. 
 pub start_row-requires : goal.start_row-requires
 start_row-requires c =
     let r = c.loop-r.r in
-    (lent_length _ _ r _ (whole r) c.loop-r.invariant.started.long (omega arith), c.requires.0 r (omega arith))
+    (lent_length _ _ r _ (whole_row r) c.loop-r.invariant.started.long (omega arith), c.requires.0 r (omega arith))
 
 pub loop-r-preserved : goal.loop-r-preserved
 loop-r-preserved c =
     let r = c.loop-r.r in
     record {
-      started = rw (add-one) (started_more c.loop-r.invariant.started _ _ (whole r) (omega arith) c.start_row.ensures);
+      started = rw (add-one) (started_more c.loop-r.invariant.started _ _ (whole_row r) (omega arith) c.start_row.ensures);
       within = omega arith;
     }
 
