@@ -12,10 +12,11 @@ use Rattle.census.proofs.count_sets.Goals.{After-wide-m}
 pub loop-set-init : goal.loop-set-init
 loop-set-init c = record { within = omega arith; counted = c.requires.1 ∙ tallies_none _ }
 
--- the pivot that a turn counts is one of five
+-- the pivot that a turn counts is the set's first missing one
 pivot : (c : After-wide-m) → c.wide-m.result ≡ missing c.args.n (marked (c.args.n * c.args.n) c.loop-set.set)
 pivot c = c.wide-m.ensures ∙ c.first_missing.ensures
 
+-- it is one of five, and there are five counts
 inside : (c : After-wide-m) → (c.wide-m.result < 5) × (length c.loop-set.out ≡ 5)
 inside c =
     let n = c.args.n in (

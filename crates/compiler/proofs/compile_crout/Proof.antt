@@ -12,7 +12,7 @@ use Rattle.compiler.proofs.Ending.{missing-ends}
 use Rattle.compiler.proofs.compile_crout.Statement.{statement}
 use Rattle.compiler.proofs.compile_crout.Tie as tie
 
--- Places of the code: where the work numbers for each place are known, seen from where the slots are made.
+-- Places of the code: where the work numbers for each place are known, seen from where the slots' rows and columns are lent.
 abbrev Known : Type 0
 Known = tie.Joined-again
 

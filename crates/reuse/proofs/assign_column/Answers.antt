@@ -5,7 +5,7 @@ use Rattle.reuse.specs.Places.{ColumnAt}
 use Rattle.reuse.proofs.Placed.{sizes}
 use Rattle.reuse.proofs.Column.{column_bounds, column-ends, column-step, column-skips}
 use Rattle.reuse.proofs.assign_column.Goals as goal
-use Rattle.reuse.proofs.assign_column.Goals.{In-loop-t, After-wide}
+use Rattle.reuse.proofs.assign_column.Goals.{After-wide}
 
 -- the place of a turn has a number, and so has each slot
 pub next_place-walk-requires : goal.next_place-walk-requires
