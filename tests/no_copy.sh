@@ -46,8 +46,8 @@ done <<'END'
 fn take_words(bytes: &[u8], words: &mut [u32]) { words[k] = word_of(bytes[at], bytes[at + 1]); }
 check_either(&[], bytes, true, bytes.len() / 4, 0)
 let a = bytes[smaller(i, j)]; read_file(&bytes[..end], again)
-#[no_mangle] // let mut four = [0; 4];
-ensures { λ r. ⌜ r ≡ fold [a, b] ⌝ } { 0 }
+#[unsafe(no_mangle)] // let mut four = [0; 4];
+ensures { result ≡ fold [a, b] } { 0 }
 END
 
 [ $# -gt 0 ] || set -- crates/{codec,checker,progress,numbers}/src/**/*.rt
