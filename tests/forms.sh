@@ -68,12 +68,11 @@ form 'judge in crates/progress' 'a match over the kinds of records'
 # "a step takes it and gives it back"
 state=$(tokens crates/state/src/lib.rt)
 methods=$(block 'impl State {' <<<"$state")
-gives='State|Self'
-[[ $(block 'enum Stepped {' <<<"$state") != *' ( State ) '* ]] || gives+='|Stepped'
+gives='(State|Self) \{.* (self \}|\( self \))|Result < State , Fault > \{.* Ok \( self \)'
 for name in open subtract divide close; do
     method=$(block "fn $name (" <<<"$methods")
     want "$name with mut self" "$method" "^ fn $name \( mut self [,)]"
-    want "the state that $name gives back" "$method" "\) -> ($gives) \{.* (self \}|\( self \)) "
+    want "the state that $name gives back" "$method" "\) -> ($gives) "
     want "$name in step" "$(block 'fn step (' <<<"$state")" " \. $name \("
 done
 form 'State in crates/state' 'methods with mut self for open, subtract, divide and close'

@@ -44,8 +44,9 @@ while read -r line; do
     [ -z "$(tokens <<<"$line" | array)" ] || fail "found: $line"
 done <<'END'
 fn take_words(bytes: &[u8], words: &mut [u32]) { words[k] = word_of(bytes[at], bytes[at + 1]); }
-check_either(&[], bytes, true, bytes.len() / 4, 0)
-let a = bytes[smaller(i, j)]; read_file(&bytes[..end], again)
+check_records(&Filed { bytes }, 0)
+step(z, kind, p, q, a, &[], limit, c, &mut [], &mut [])
+let a = bytes[i.min(j)]; read_file(&bytes[..written as usize], again)
 #[unsafe(no_mangle)] // let mut four = [0; 4];
 ensures { result ≡ fold [a, b] } { 0 }
 END

@@ -9,6 +9,7 @@ ghost use Rattle.model.specs.Sweep.{moves_more};
 ghost use Rattle.arith.specs.Answer.{answer_of, has_vanished};
 
 // What one operation gives. A number that a product of two nonzero factors went into as zero has a case of its own: that product vanished.
+// Kept: document 01 asks for this enum, with its two refusals (docs/SCOPE.md, "Each place and its form").
 #[derive(Clone, Copy)]
 pub enum Operation {
     Number(f64),

@@ -21,11 +21,8 @@ ghost use Rattle.model.specs.Boundary.{label_number, place_number, check_number,
 ghost use Rattle.model.specs.Boundary.{compiled_number, compiled_numbers, filed_number, filed_numbers};
 ghost use Rattle.model.specs.Boundary.{reply_number, reply_numbers, limit_numbers, Told, costs_number, renumbering_number, renumbering_numbers};
 
-use answers::{
-    compile_answer, costs_answer, file_answer, limit_answer, order_answer, path_answer, run_answer,
-    verdict_answer,
-};
-use labels::Located;
+use answers::{costs_answer, limit_answer, run_answer, told_answer, verdict_answer};
+use compiler::Method;
 
 // The label of (i, j) in a table of order n; 0 if any of the three is out of range.
 #[unsafe(no_mangle)]
@@ -41,8 +38,8 @@ pub extern "C" fn crout_place(n: u32, label: u32) -> u32
     ensures { result ≡ place_number n label }
 {
     match labels::place(n, label) {
-        Located::At(i, j) => 1024 * i + j,
-        Located::Outside => 0,
+        Some(place) => 1024 * place.row + place.column,
+        None => 0,
     }
 }
 
@@ -60,7 +57,7 @@ pub extern "C" fn crout_compile(
     ensures words { words.new ≡ Compile.words_after n plan.now (length work.old) words.old }
     ensures numbers { out.new ≡ compiled_numbers (compiles n plan.now (length work.old) (length words.old)) }
 {
-    compile_answer(compiler::compile(n, plan, work, words), out)
+    told_answer(compiler::compile(n, plan, work, words, Method::Plain), out)
 }
 
 // The same by the second compiler, whose program uses slots again.
@@ -78,7 +75,10 @@ pub extern "C" fn crout_compile_compact(
     ensures numbers { out.new
         ≡ compiled_numbers (compiles_by compact n plan.now (length work.old) (length words.old)) }
 {
-    compile_answer(compiler::compile_compact(n, plan, work, words), out)
+    told_answer(
+        compiler::compile(n, plan, work, words, Method::Compact),
+        out,
+    )
 }
 
 // The same by the sweep's compiler: Gauss-Seidel for the plan. out: 0, products of a sweep, records.
@@ -96,7 +96,7 @@ pub extern "C" fn crout_compile_sweep(
     ensures numbers { out.new
         ≡ compiled_numbers (compiles_by sweep n plan.now (length work.old) (length words.old)) }
 {
-    compile_answer(compiler::compile_sweep(n, plan, work, words), out)
+    told_answer(compiler::compile(n, plan, work, words, Method::Sweep), out)
 }
 
 // Checks a program file's bytes: 18, then 7 to 13.
@@ -132,7 +132,7 @@ pub extern "C" fn crout_fill_path(
     ensures work { work.new ≡ work_traced n plan.now work.old }
     ensures path { Told n plan.now i j (length work.old) list.old list.new out.new }
 {
-    path_answer(paths::fill_path(n, plan, i, j, work, list), out)
+    told_answer(paths::fill_path(n, plan, i, j, work, list), out)
 }
 
 // Whether a plan of order n costs as many products as a full table: 1 if it does, 0 if not. 1 to 5 of the plan.
@@ -169,7 +169,7 @@ pub extern "C" fn crout_order(
     ensures numbers { out.new
         ≡ renumbering_numbers (renumbers n plan.now trials (length work.old) (length numbering.old)) }
 {
-    order_answer(ordering::order(n, plan, trials, work, numbering), out)
+    told_answer(ordering::order(n, plan, trials, work, numbering), out)
 }
 
 // What is left over of each row of a plan of order n, exactly: b less the sum of a times x, as a whole number of 2^-2148, in 66 words each.
@@ -196,7 +196,7 @@ pub extern "C" fn crout_write(words: &[u32], bytes: &mut [u8], out: &mut [u64; 3
     ensures content { bytes.new ≡ bytes_after words.now bytes.old }
     ensures numbers { out.new ≡ filed_numbers (writes (length words.now) (length bytes.old)) }
 {
-    file_answer(codec::write_file(words, bytes), out)
+    told_answer(codec::write_file(words, bytes), out)
 }
 
 // Reads a program file into words. out: the words written.
@@ -206,7 +206,7 @@ pub extern "C" fn crout_read(bytes: &[u8], words: &mut [u32], out: &mut [u64; 3]
     ensures content { words.new ≡ words_after bytes.now words.old }
     ensures numbers { out.new ≡ filed_numbers (reads (length bytes.now) (length words.old)) }
 {
-    file_answer(codec::read_file(bytes, words), out)
+    told_answer(codec::read_file(bytes, words), out)
 }
 
 // Runs a program: a pivot l is refused where -limit <= l <= limit; with s = 0 the limit is the tolerance of a sweep. out: products,

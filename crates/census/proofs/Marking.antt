@@ -10,7 +10,7 @@ use Rattle.model.proofs.Within.{within-range}
 use Rattle.model.proofs.Sets.{marked, digits, digits-at, digits_mark}
 use Rattle.slots.specs.Marks.{Marks}
 
-places-few : (N : ℕ) → within N 4 ≡ true → N * N ≤ 16
+pub places-few : (N : ℕ) → within N 4 ≡ true → N * N ≤ 16
 places-few N h = let high = (within-range N 4 h).1 in mul-le-mul {n₂ = 4} {m₂ = 4} high high
 
 pub set-marks : (N b : ℕ) {work : List ℕ} → within N 4 ≡ true → work ≡ digits b 16 → Marks N (marked (N * N) b) 0 work

@@ -1,11 +1,16 @@
--- A program's records, from words or from bytes.
-use Prim.Native.Nat.{ℕ, ◌+◌, ◌*◌}
-use mathlib.Core.Path.{◌≡◌}
+-- The words of a file's bytes: how many, and what one is.
+use Prim.Native.Nat.{ℕ, ◌+◌, ◌*◌, ◌/◌, ◌<◌}
+use mathlib.Core.Path.{◌≡◌, sym}
 use mathlib.Core.List.{List}
+use lib.ListN.{length, get_or}
 use Rattle.model.specs.Check.{word}
-use Rattle.checker.specs.declared.Record.{Record}
-use Rattle.checker.specs.Source.{record_of}
+use Rattle.model.specs.File.{words_of}
+use Rattle.model.proofs.Bytes.{words-length}
+use Rattle.model.proofs.Reading.{word_read}
 
-pub record_is : (W : List ℕ) (k : ℕ) {kind p q next : ℕ} → kind ≡ word W (4 * k) → p ≡ word W (4 * k + 1) → q ≡ word W (4 * k + 2) → next ≡ word W (4 * k + 3)
-    → ◌≡◌ {A = Record} (record { kind = kind; p = p; q = q; next = next }) (record_of W k)
-record_is W k ek ep eq en = λ i. record { kind = ek i; p = ep i; q = eq i; next = en i }
+pub words_counted : (bs : List ℕ) → length (words_of bs) ≡ length bs / 4
+words_counted = words-length
+
+pub word_of_four : (bs : List ℕ) (i : ℕ) → 4 * i + 3 < length bs
+    → get_or bs (4 * i) 0 + 256 * get_or bs (4 * i + 1) 0 + 65536 * get_or bs (4 * i + 2) 0 + 16777216 * get_or bs (4 * i + 3) 0 ≡ word (words_of bs) i
+word_of_four bs i h = sym (word_read bs i h)

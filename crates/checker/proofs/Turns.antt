@@ -4,22 +4,20 @@ use native.Mathlib.Omega.{arith}
 use mathlib.Core.Path.{◌≡◌, refl, sym, ap, ap₂, subst, ◌∙◌}
 use mathlib.Core.Bool.{Bool, true, false, ◌&&◌}
 use mathlib.Core.List.{List, ◌∷◌}
-use lib.Dec.{ltb, eqb}
+use lib.Dec.{ltb}
 use lib.ListN.{length}
-use borrow.Author.Tests.{eq-eqb, ne_eqb}
+use borrow.Author.Tests.{eq-eqb, ne_eqb, eqb-true, eqb-false}
 use Rattle.model.specs.Check as Check
-use Rattle.model.specs.Check.{word, record_at, next_of, whole, broken, Link, End, Chain, Verdict, refusal}
+use Rattle.model.specs.Check.{word, record_at, next_of, whole, broken, Link, End, Chain, Verdict, fine, refusal}
 use Rattle.model.specs.Check.{kind_of, belongs, formed, in_order, allowed, onward, at_end, check_links}
 use Rattle.model.proofs.Following.{chain_from, chain-from, chain-ends, chain_breaks, chain_goes, check-ended, check-link}
+use Rattle.progress.specs.declared.Record.{Record}
 use Rattle.progress.specs.declared.Head.{Head}
 use Rattle.progress.specs.declared.Progress.{Progress}
-use Rattle.progress.specs.Steps.{progress_of, total, first_of, refusal_of}
-use Rattle.checker.specs.Whole.{followed}
+use Rattle.progress.specs.Steps.{progress_of, total, first_of, refusal_of, right_in}
+use Rattle.checker.specs.Source.{record_of}
+use Rattle.checker.specs.Whole.{unless, followed}
 use Rattle.progress.proofs.Judging.{onward-total}
-
--- what follows a record k that is refused by r, or not if r is 0
-abbrev unless : ℕ → ℕ → Verdict → Verdict
-unless r k v = elim (eqb r 0) [ true ↦ v | false ↦ refusal r k ]
 
 unless_none : (r k : ℕ) (v : Verdict) → r ≡ 0 → unless r k v ≡ v
 unless_none r k v e = rw (unless, eq-eqb r 0 e)
@@ -47,14 +45,6 @@ pub record Facing (h : Head) (W : List ℕ) (g : Progress) (k n : ℕ) : Type 0 
   pub is : n ≡ next_of W k
   pub up : k < n
   pub low : n < length W / 4
-
--- one turn: record k names n as next, and r is the refusal of record n, or 0
-pub record Turn (h : Head) (W : List ℕ) (g : Progress) (k n r : ℕ) : Type 0 where
-  pub here : CheckAfter h W g k
-  pub is : n ≡ next_of W k
-  pub up : k < n
-  pub low : n < length W / 4
-  pub refusal_is : r ≡ refusal_of h g (word W (4 * n)) (word W (4 * n + 1)) (word W (4 * n + 2))
 
 -- the check of a chain is its first record's, and then the rest
 link-judged : (N n s : ℕ) (g : Check.Progress) (l : Link) (ls : List Link) (e : End) → let k = kind_of l.at.kind in
@@ -109,19 +99,21 @@ module _ (h : Head) (W : List ℕ) where
     unfolding along
     links up low = here.same ∙ ap (along (progress_of g)) (chain_goes W k up low) ∙ link-judged _ _ _ (progress_of g) _ _ _
 
-  module _ (g : Progress) (k n r : ℕ) (t : Turn h W g k n r) where
-    turned : followed h W ≡ unless r n (rest h W (onward_at W n (progress_of g)) n)
+  -- one turn: record k names n as next, and r is record n
+  module _ (g : Progress) (k n : ℕ) (f : Facing h W g k n) (r : Record) (read : r ≡ record_of W n) where
+    turned : followed h W ≡ unless (refusal_of h g r.kind r.p r.q) n (rest h W (onward (kind_of r.kind) r.p r.q (progress_of g)) n)
     turned =
         subst (λ m. followed h W ≡ unless (refusal_of h g (word W (4 * m)) (word W (4 * m + 1)) (word W (4 * m + 2))) m
         (rest h W (onward_at W m (progress_of g)) m))
-        (sym t.is) (links g k t.here (omega arith) (omega arith))
-        ∙ ap (λ r. unless r n (rest h W (onward_at W n (progress_of g)) n)) (sym t.refusal_is)
+        (sym f.is) (links g k f.here (omega arith) (omega arith))
+        ∙ ap (λ r. unless (refusal_of h g r.kind r.p r.q) n (rest h W (onward (kind_of r.kind) r.p r.q (progress_of g)) n)) (sym read)
 
-    pub check_goes_on : r ≡ 0 → (g' : Progress) → progress_of g' ≡ onward_at W n (progress_of g) → CheckAfter h W g' n
-    check_goes_on none g' e =
-        let a = record_at W n in
-        let few : total (progress_of g') ≤ n = omega (arith, onward-total (kind_of a.kind) a.p a.q (progress_of g), ap total e) in
-        record { same = turned ∙ unless_none r n _ none ∙ ap (λ m. rest h W m n) (sym e); inside = t.low; few = few }
+    pub check_goes_on : right_in h g r.kind r.p r.q ≡ true → (g' : Progress) → progress_of g' ≡ onward (kind_of r.kind) r.p r.q (progress_of g) → CheckAfter h W g' n
+    check_goes_on right g' e =
+        let few : total (progress_of g') ≤ n = omega (arith, onward-total (kind_of r.kind) r.p r.q (progress_of g), ap total e) in
+        record { same = turned ∙ unless_none _ n _ (eqb-true _ 0 right) ∙ ap (λ m. rest h W m n) (sym e); inside = f.low; few = few }
 
-    pub check-refuses : (r ≡ 0 → ⊥) → refusal r n ≡ followed h W
-    check-refuses some = sym (turned ∙ unless_some r n _ some)
+    pub check-refuses : right_in h g r.kind r.p r.q ≡ false → unless (refusal_of h g r.kind r.p r.q) n fine ≡ followed h W
+    check-refuses wrong =
+        let some = eqb-false (refusal_of h g r.kind r.p r.q) 0 wrong in
+        unless_some _ n fine some ∙ sym (turned ∙ unless_some _ n _ some)

@@ -1,4 +1,3 @@
 -- What the contracts of `checker` cite.
-pub mod Checked
 pub mod Source
 pub mod Whole

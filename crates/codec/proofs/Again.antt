@@ -5,9 +5,11 @@ use mathlib.Core.Path.{◌≡◌, sym, ap, ap₂, ◌∙◌}
 use mathlib.Core.List.{List, ◌++◌}
 use lib.ListN.{length, take, drop, length-append}
 use lib.Seq.{take_at}
-use Rattle.model.specs.File.{bytes_of, words_of, Filed, filed, refusal, writes, reads, bytes_after, words_after}
+use Rattle.model.specs.File.{bytes_of, words_of, Filed, filed, writes, reads, bytes_after, words_after}
 use Rattle.model.proofs.Bytes.{Below, bytes_length, words-length, words_of_bytes, bytes_of_words}
-use Rattle.codec.specs.Filing.{and_then, words_again, bytes_again, lent_after}
+use Rattle.refusal.specs.declared.Refusal.{Refusal}
+use Rattle.std.proofs.Common.{Result, Err}
+use Rattle.codec.specs.Filing.{filed_of, and_then, words_again, bytes_again, lent_after}
 use Rattle.codec.proofs.Outcome.{writes-done, reads-done, written_count, made-count}
 
 -- the first k entries of a slice are these
@@ -33,11 +35,11 @@ made-front bs ws k done e =
 
 -- the answer of both calls, and the slice lent to the second, by the first answer
 module _ (answer : Filed) (next : ℕ → Filed) (content lent : List ℕ) where
-  pub first-refused : {r : Filed} (number detail : ℕ) → r ≡ refusal number detail → r ≡ answer
-      → (r ≡ and_then answer next) × (lent ≡ lent_after (and_then answer next) content lent)
-  first-refused number detail told e =
-      let both = ap (λ r. and_then r next) (sym told ∙ e) in
-      (told ∙ both, ap (λ r. lent_after r content lent) both)
+  pub first-refused : {r : Result ℕ Refusal} {e y : Refusal} → r ≡ Err y → y ≡ e → filed_of (Err e) ≡ answer
+      → (filed_of r ≡ and_then answer next) × (lent ≡ lent_after (and_then answer next) content lent)
+  first-refused {r} {e} {y} is same told =
+      let both : filed_of (Err e) ≡ and_then answer next = ap (λ r. and_then r next) told in
+      (ap filed_of is ∙ ap (λ y. filed_of (Err y)) same ∙ both, ap (λ r. lent_after r content lent) both)
 
   pub first_done : {r : Filed} {later : List ℕ} (k : ℕ) → filed k ≡ answer → r ≡ next k → later ≡ lent_after (next k) content lent
       → (r ≡ and_then answer next) × (later ≡ lent_after (and_then answer next) content lent)

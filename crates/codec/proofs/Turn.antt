@@ -45,26 +45,28 @@ abbrev pub word_stored : List ℕ → ℕ → ℕ → List ℕ
 word_stored bytes at w =
     set (set (set (set bytes at (w % 256)) (at + 1) (w / 256 % 256)) (at + 2) (w / 65536 % 256)) (at + 3) (w / 16777216 % 256)
 
-module _ (ws d : List ℕ) (k at : ℕ) (e : at ≡ 4 * k) (below : k < length ws) (fits : 4 * length ws ≤ length d) where
-  put_byte : (i j v : ℕ) → i ≡ at + j → j < 4 → get_or (bytes_of (get_or ws k 0 ∷ drop (suc k) ws)) j 0 ≡ v
-      → set (copied (bytes_of ws) d i) i v ≡ copied (bytes_of ws) d (at + suc j)
+module _ (ws d : List ℕ) (k : ℕ) (below : k < length ws) (fits : 4 * length ws ≤ length d) where
+  put_byte : (i j v : ℕ) → i ≡ 4 * k + j → j < 4 → get_or (bytes_of (get_or ws k 0 ∷ drop (suc k) ws)) j 0 ≡ v
+      → set (copied (bytes_of ws) d i) i v ≡ copied (bytes_of ws) d (4 * k + suc j)
   put_byte i j v i-is small byte =
       let whole = bytes_length ws in
-      copy_more (bytes_of ws) d i (at + suc j) v (omega arith) (byte_read ws k j i below (omega arith) ∙ byte) (omega arith) (omega arith)
+      copy_more (bytes_of ws) d i (4 * k + suc j) v (omega arith) (byte_read ws k j i below i-is ∙ byte) (omega arith) (omega arith)
 
-  pub put-turn : word_stored (copied (bytes_of ws) d at) at (get_or ws k 0) ≡ copied (bytes_of ws) d (at + 4)
+  pub put-turn : word_stored (copied (bytes_of ws) d (4 * k)) (4 * k) (get_or ws k 0) ≡ copied (bytes_of ws) d (4 * (k + 1))
   unfolding bytes_of
   put-turn =
+      let next : 4 * (k + 1) ≡ 4 * k + 4 = omega arith in
       rw (
-        put_byte at 0 _ (omega arith) (omega arith) refl,
-        put_byte (at + 1) 1 _ refl (omega arith) refl,
-        put_byte (at + 2) 2 _ refl (omega arith) refl,
-        put_byte (at + 3) 3 _ refl (omega arith) refl,
+        put_byte (4 * k) 0 _ (omega arith) (omega arith) refl,
+        put_byte (4 * k + 1) 1 _ refl (omega arith) refl,
+        put_byte (4 * k + 2) 2 _ refl (omega arith) refl,
+        put_byte (4 * k + 3) 3 _ refl (omega arith) refl,
+        next,
       )
 
 -- the reader's turn
-pub take-turn : (bs d : List ℕ) (k at : ℕ) → at ≡ 4 * k → at + 3 < length bs → k < length d
-    → set (copied (words_of bs) d k) k (four_at bs at) ≡ copied (words_of bs) d (k + 1)
-take-turn bs d k at e below fits =
+pub take-turn : (bs d : List ℕ) (k : ℕ) → k < length bs / 4 → k < length d
+    → set (copied (words_of bs) d k) k (four_at bs (4 * k)) ≡ copied (words_of bs) d (k + 1)
+take-turn bs d k below fits =
     let whole = words-length bs in
-    copy_more (words_of bs) d k (k + 1) _ (omega arith) (word_read bs k (omega arith) ∙ ap (four_at bs) (sym e)) (omega arith) (omega arith)
+    copy_more (words_of bs) d k (k + 1) _ (omega arith) (word_read bs k (omega arith)) (omega arith) (omega arith)

@@ -1,12 +1,12 @@
 -- The answer of a file call as the model's, and what two calls in a row answer and leave. Definitions only.
-use Rattle.std.specs.Prelude.{ℕ, List, ◌++◌, drop}
+use Rattle.std.specs.Prelude.{ℕ, List, ◌++◌, drop, Result, Ok, Err}
 use Rattle.model.specs.File.{Filed, filed, refusal, writes, reads}
-use Rattle.codec.specs.declared.Filing.{Filing}
-use Rattle.codec.specs.declared.Filing.TheVariants.{Done, Refused}
+use Rattle.refusal.specs.declared.Refusal.{Refusal}
+use Rattle.refusal.specs.Named.{number_of, detail_of}
 
-abbrev pub filed_of : Filing → Filed
-filed_of (Done k) = filed k
-filed_of (Refused r d) = refusal r d
+abbrev pub filed_of : Result ℕ Refusal → Filed
+filed_of (Ok k) = filed k
+filed_of (Err r) = refusal (number_of r) (detail_of r)
 
 -- two calls in a row: the second is given the k entries that the first wrote
 abbrev pub and_then : Filed → (ℕ → Filed) → Filed

@@ -1,27 +1,11 @@
 -- The first q work numbers copied past themselves, and the 3 q past them lent and back.
-use Prim.Native.Nat.{ℕ, suc, ◌+◌, ◌-◌, ◌*◌, ◌≤◌, ◌<◌}
+use Prim.Native.Nat.{ℕ, ◌+◌, ◌-◌, ◌*◌, ◌≤◌, ◌<◌}
 use native.Mathlib.Omega.{arith}
-use mathlib.Core.Path.{◌≡◌, sym, ap, ap₂, ◌∙◌}
+use mathlib.Core.Path.{◌≡◌, sym, ap, ◌∙◌}
 use mathlib.Core.List.{List, ◌++◌, append_assoc}
-use lib.ListN.{length, get_or, take, drop, set, replicate, length-append, length-drop, get_or-append}
-use lib.Seq.{paste, paste-suc, length-paste, length_paste_head, drop-paste, length-take-le, get_or-take, take_at, drop_at, drop-drop}
-use Rattle.compiler.proofs.Parts.{part_of, with_part, whole_part, cleared-part}
-
-module _ (work : List ℕ) (q : ℕ) (room : 2 * q ≤ length work) where
-  -- those copied from stay
-  copied_stay : (n k : ℕ) → n ≤ q → k < q → get_or (paste work q work n) k 0 ≡ get_or work k 0
-  copied_stay n k few below =
-      get_or-append (take q work ++ take n work) (drop (q + n) work) 0 k (omega (arith, length_paste_head work q work n (omega arith) (omega arith)))
-      ∙ get_or-append (take q work) (take n work) 0 k (omega (arith, length-take-le q work (omega arith)))
-      ∙ get_or-take q work k 0 below
-
-  -- one more
-  pub copied_next : (k : ℕ) → k < q → set (paste work q work k) (q + k) (get_or (paste work q work k) k 0) ≡ paste work q work (k + 1)
-  copied_next k below =
-      let next : suc k ≡ k + 1 = omega arith in
-      ap (set (paste work q work k) (q + k)) (copied_stay k k (omega arith) below)
-      ∙ paste-suc work q work k 0 (omega arith) (omega arith)
-      ∙ ap (paste work q work) next
+use lib.ListN.{length, get_or, take, drop, length-append, length-drop, get_or-append}
+use lib.Seq.{paste, length-paste, drop-paste, length-take-le, get_or-take, take_at, drop_at, drop-drop}
+use Rattle.compiler.proofs.Parts.{part_of, with_part, whole_part}
 
 module _ (work copied : List ℕ) (q : ℕ) (room : 4 * q ≤ length work) (copied-by : copied ≡ paste work q work q) where
   front : length (take q work) ≡ q
@@ -78,11 +62,11 @@ module _ (work copied : List ℕ) (q : ℕ) (room : 4 * q ≤ length work) (copi
     pub given-past : (k : ℕ) → k < q → get_or (part_of q (length after) after) k 0 ≡ get_or given k 0
     given-past k below = ap (λ l. get_or l k 0) (whole_part q after ∙ past) ∙ get_or-append given (drop (4 * q) work) 0 k (omega arith)
 
-    -- and is cleared
-    pub cleared-past : {part : List ℕ} → part ≡ replicate (3 * q) 0 ++ drop (3 * q) (part_of q (length after) after)
-        → with_part q (length after) after part ≡ take q work ++ (replicate (3 * q) 0 ++ drop (4 * q) work)
-    cleared-past e =
-        let rest : drop (q + 3 * q) after ≡ drop (4 * q) work =
-        sym (drop-drop (3 * q) q after) ∙ ap (drop (3 * q)) past ∙ drop_at given (drop (4 * q) work) (3 * q) count in
-        cleared-part q after (3 * q) e
-        ∙ ap₂ (λ xs ys. xs ++ (replicate (3 * q) 0 ++ ys)) (take_at (take q copied) _ q copied_front ∙ first_stay) rest
+    -- the first q and those past all four parts are as they came
+    pub first-left : take q after ≡ take q work
+    first-left = take_at (take q copied) _ q copied_front ∙ first_stay
+
+    pub rest-left : drop (4 * q) after ≡ drop (4 * q) work
+    rest-left =
+        let all : q + 3 * q ≡ 4 * q = omega arith in
+        ap (λ k. drop k after) (sym all) ∙ sym (drop-drop (3 * q) q after) ∙ ap (drop (3 * q)) past ∙ drop_at given (drop (4 * q) work) (3 * q) count

@@ -1,77 +1,76 @@
 -- How compiling ends, from what the slot pass, the clearing and the writer leave.
 use Prim.Native.Nat.{ℕ, ◌+◌, ◌*◌, ◌≤◌, ◌<◌}
+use native.Mathlib.Nat.{mul-le-mul}
 use native.Mathlib.Omega.{arith}
 use mathlib.Core.Path.{◌≡◌, sym, ap, ap₂, ◌∙◌}
-use mathlib.Core.Bool.{Bool, true, false}
+use mathlib.Core.Bool.{true}
 use mathlib.Core.List.{List, ◌++◌, append_assoc}
 use lib.ListN.{length, take, drop, replicate, length-append, length-drop, replicate-append-replicate}
 use lib.Seq.{drop_at}
 use Rattle.model.specs.Label.{is_order}
-use Rattle.model.specs.Fill.{Plan, missing, record_count}
+use Rattle.model.specs.Fill.{Plan, record_count}
 use Rattle.model.specs.Program.{program, compiled}
-use Rattle.model.specs.Compact.{compact_slots, compacted}
-use Rattle.model.specs.Compile.{written, refusal, judged, good, orderly, compact, wanted, spare, gap_at, slots_by, records_by, program_by}
-use Rattle.model.specs.Compile.{slot_numbers, numbers_by, work_with}
+use Rattle.model.specs.Compile.{Compiler, plain, compact, written, refusal, judged, good, orderly, wanted, spare, gap_at, slots_by, records_by, program_by}
+use Rattle.model.specs.Compile.{slot_numbers, work_with}
 use Rattle.model.proofs.Lists.{drop-later}
 use Rattle.model.proofs.Within.{within-range}
 use Rattle.model.proofs.Bounds.{records-at_most}
 use Rattle.model.proofs.Counts.{records-counted}
 use Rattle.model.proofs.WorkNumbers.{slot-numbers-length}
-use Rattle.model.proofs.Compiles.{orderly-good, Ends, ends-gap, ends_words, ends-done}
+use Rattle.model.proofs.Compiles.{orderly-good, Ends, ends-orderly, ends-gap, ends_words, ends-done}
 use Rattle.slots.specs.declared.Filled.{Filled}
-use Rattle.plans.specs.Slotted as Plans
+use Rattle.refusal.specs.Named.{number_of, detail_of}
+use Rattle.refusal.specs.declared.Refusal.{Refusal}
+use Rattle.plans.specs.Slotted.{Slotted, Refuses, early, gap}
 use Rattle.writer.specs.Line.{plan_records}
 use Rattle.writer.specs.Prepared.{Prepared}
 use Rattle.writer.proofs.Numbers.{filled-first, slots_agree, plan-compiled}
-use Rattle.compiler.specs.Compilation.{crout_of, each_of}
-use Rattle.compiler.specs.Slotted.{Slotted}
-use Rattle.compiler.proofs.Compilers.{wanted-is, wanted-each, Crout, crout}
+use Rattle.compiler.specs.Compilation.{records_of}
+use Rattle.compiler.proofs.Compilers.{wanted-is, Crout, of_plain, of_compact}
 use Rattle.compiler.proofs.Parts.{part_of, with_part, cleared-part}
 
--- a missing pivot: the work numbers are cleared
-pub missing-ends : (again : Bool) {each N : ℕ} {L : Plan} {before work in_rows in_columns : List ℕ} {r : Filled} (words : List ℕ)
-    → orderly (wanted (crout_of again) N) N L (length before) ≡ good → each ≡ each_of (crout_of again) → Plans.Slotted each N L before work in_rows in_columns r
-    → (r.missing ≡ 0 → ⊥) → Ends (crout_of again) N L before words (refusal 5 r.missing) work words
-missing-ends again {each} {N} {L} {before} {work} {r = r} words passed each-is s gone =
-    let c = crout_of again in
-    let same = crout again N L in
-    let named : r.missing ≡ gap_at c N L = s.missing_is ∙ sym same.gap_at_is in
+-- 1 to 5 refuse: 1 to 4 change nothing, and after 5 the work numbers are cleared
+pub refused-ends : {c : Compiler} {each N : ℕ} {L : Plan} → Crout c each N L → {before work : List ℕ} (words : List ℕ) {r : Refusal}
+    → Refuses each N L before work r → Ends c N L before words (refusal (number_of r) (detail_of r)) work words
+refused-ends {c} {each} {N} {L} same {before} words (early e stays) = rw stays (ends-orderly c N L before words _ _ (rw same.wants at e))
+refused-ends {c} {each} {N} {L} same {before} {work} words (gap {m} orders named some cleared) =
+    let here : m ≡ gap_at c N L = named ∙ sym same.gap_at_is in
     let clean : work ≡ work_with c N (replicate (N * N) 0) before =
-    s.cleared gone
-    ∙ ap (λ k. replicate k 0 ++ drop k before) (wanted-each c N each-is)
+    cleared
+    ∙ ap (λ k. replicate k 0 ++ drop k before) same.wants
     ∙ ap (λ l. l ++ drop (wanted c N) before)
     (ap (λ k. replicate k 0) (sym (wanted-is c N)) ∙ sym (replicate-append-replicate (N * N) (spare c N) 0))
     ∙ append_assoc (replicate (N * N) 0) (replicate (spare c N) 0) _ in
-    rw (named, clean, ← same.gap_is) (ends-gap c N L before words passed (λ none. gone (named ∙ none)))
+    rw (here, clean, ← same.gap_is) (ends-gap c N L before words (rw same.wants at orders) (λ none. some (here ∙ none)))
 
--- document 01's sum
-abbrev records_of : ℕ → Filled → ℕ
-records_of n r = 1 + 2 * (r.slots + 2 * n) + r.products + n + r.above
-
-module _ {again : Bool} {N : ℕ} {L : Plan} {before work in_rows in_columns : List ℕ} {r : Filled} (s : Slotted again N L before work in_rows in_columns r) where
-  same : Crout (crout_of again) N L
-  same = crout again N L
+module _ {c : Compiler} {each N : ℕ} {L : Plan} (same : Crout c each N L) {before work in_rows in_columns : List ℕ} {r : Filled}
+    (s : Slotted each N L before work in_rows in_columns r) where
+  passed : orderly (wanted c N) N L (length before) ≡ good
+  passed = rw same.wants at s.passed
 
   -- what 1 to 4 tell
-  told : (is_order N ≡ true) × ((judged N 0 1 L ≡ good) × (wanted (crout_of again) N ≤ length before))
-  told = orderly-good _ _ _ _ s.passed
+  told : (is_order N ≡ true) × ((judged N 0 1 L ≡ good) × (wanted c N ≤ length before))
+  told = orderly-good _ _ _ _ passed
 
   pub high : N ≤ 600
   high = (within-range N 600 told.0).1
 
-  slots-first : take (N * N) work ≡ slot_numbers N L
+  pub square-high : N * N ≤ 360000
+  square-high = mul-le-mul {n₂ = 600} {m₂ = 600} high high
+
+  pub slots-first : take (N * N) work ≡ slot_numbers N L
   slots-first = filled-first s.filled
 
-  past-wanted : drop (wanted (crout_of again) N) work ≡ drop (wanted (crout_of again) N) before
+  pub past-wanted : drop (wanted c N) work ≡ drop (wanted c N) before
   past-wanted =
-      drop-later work before (N * N) (wanted (crout_of again) N) (omega (arith, wanted-is (crout_of again) N))
+      drop-later work before (N * N) (wanted c N) (omega (arith, wanted-is c N))
       (rw s.filled.written (drop_at (slot_numbers N L) _ (N * N) (slot-numbers-length N L)))
 
-  pub roomy : wanted (crout_of again) N ≤ length work
+  pub roomy : wanted c N ≤ length work
   roomy = omega (
     arith,
     told.1.1,
-    wanted-is (crout_of again) N,
+    wanted-is c N,
     ap length s.filled.written,
     length-append (slot_numbers N L) (drop (N * N) before),
     slot-numbers-length N L,
@@ -85,36 +84,25 @@ module _ {again : Bool} {N : ℕ} {L : Plan} {before work in_rows in_columns : L
   pub records_fit : records_of N r ≤ 100000000
   records_fit = rw records-are (records-at_most N L high)
 
-  pub none : r.missing ≡ 0 → missing N L ≡ 0
-  none complete = sym s.filled.missing_is ∙ complete
-
-  module _ (complete : r.missing ≡ 0) (words : List ℕ) (records : ℕ) (count : records ≡ records_of N r) where
-    all : records ≡ records_by (crout_of again) N L
+  module _ (words : List ℕ) {records : ℕ} (count : records ≡ records_of N r) where
+    all : records ≡ records_by c N L
     all = count ∙ records-are ∙ sym same.records-are
 
-    whole : gap_at (crout_of again) N L ≡ 0
-    whole = same.gap_at_is ∙ none complete
+    whole : gap_at c N L ≡ 0
+    whole = same.gap_at_is ∙ s.whole
 
     -- too few words
-    pub short-ends : {square spares : ℕ} {part : List ℕ} → length words < 4 * records → square ≡ N * N → spares ≡ spare (crout_of again) N
-        → part ≡ replicate spares 0 ++ drop spares (part_of square (length work) work)
-        → Ends (crout_of again) N L before words (refusal 6 records) (with_part square (length work) work part) words
-    short-ends {square} {spares} {part} few square-is spares-is e =
-        let clean : with_part square (length work) work part ≡ work_with (crout_of again) N (numbers_by (crout_of again) N L) before =
-        cleared-part square work spares e
-        ∙ ap₂ (λ q k. take q work ++ (replicate k 0 ++ drop (q + k) work)) square-is spares-is
-        ∙ ap₂ (λ xs ys. xs ++ (replicate (spare (crout_of again) N) 0 ++ ys)) (slots-first ∙ sym same.numbers-are)
-        (ap (λ k. drop k work) (wanted-is (crout_of again) N) ∙ past-wanted) in
-        rw (all, clean) (ends_words (crout_of again) N L before words s.passed whole (rw all at few))
+    pub short-ends : length words < 4 * records → Ends c N L before words (refusal 6 records) (work_with c N (slot_numbers N L) before) words
+    short-ends few = rw (all, ← same.numbers-are) (ends_words c N L before words passed whole (rw all at few))
 
     module _ (enough : 4 * records ≤ length words) where
       pub prepared : Prepared N L work in_rows in_columns words
       prepared = record {
         order = told.0;
         rises = told.1.0;
-        covers = omega (arith, roomy, wanted-is (crout_of again) N);
+        covers = omega (arith, roomy, wanted-is c N);
         kept = λ i j inside. sym (slots_agree N L work slots-first i j inside).1;
-        records = rw (plan-compiled N L work slots-first) at (records-counted N L (none complete));
+        records = rw (plan-compiled N L work slots-first) at (records-counted N L s.whole);
         row_count = s.filled.row_count;
         column-count = s.filled.column-count;
         skips = s.filled.skips;
@@ -122,32 +110,40 @@ module _ {again : Bool} {N : ℕ} {L : Plan} {before work in_rows in_columns : L
       }
 
       -- the program is written
-      done-ends : {slots : ℕ} {work' words' : List ℕ} → slots ≡ slots_by (crout_of again) N L → work' ≡ work_with (crout_of again) N (slot_numbers N L) before
-          → words' ≡ program_by (crout_of again) N L ++ drop (4 * record_count N L) words
-          → Ends (crout_of again) N L before words (written slots r.products records) work' words'
-      done-ends made left wrote =
+      pub done-ends : {slots : ℕ} {words' : List ℕ} → slots ≡ slots_by c N L → words' ≡ program_by c N L ++ drop (4 * record_count N L) words
+          → Ends c N L before words (written slots r.products records) (work_with c N (slot_numbers N L) before) words'
+      done-ends made wrote =
           let products = s.filled.products-are ∙ sym same.products-are in
-          let numbers-left = left ∙ ap (λ ns. work_with (crout_of again) N ns before) (sym same.numbers-are) in
-          let wrote-all = wrote ∙ ap (λ k. program_by (crout_of again) N L ++ drop (4 * k) words) (sym same.records-are) in
-          rw (made, products, all, numbers-left, wrote-all)
-          (ends-done (crout_of again) N L before words s.passed whole (rw all at enough))
+          let wrote-all = wrote ∙ ap (λ k. program_by c N L ++ drop (4 * k) words) (sym same.records-are) in
+          rw (made, products, all, wrote-all, ← same.numbers-are) (ends-done c N L before words passed whole (rw all at enough))
 
-      -- with the plain slots,
-      pub plain-ends : again ≡ false → {words' : List ℕ} → words' ≡ program N (length L) r.slots (plan_records N L work) ++ drop (4 * record_count N L) words
-          → Ends (crout_of again) N L before words (written r.slots r.products records) work words'
-      unfolding compiled
-      plain-ends is wrote =
-          done-ends (s.filled.slots-are ∙ sym (ap (λ b. slots_by (crout_of b) N L) is))
-          (s.filled.written ∙ sym (ap (λ b. work_with (crout_of b) N (slot_numbers N L) before) is))
-          (wrote ∙ rw (is, s.filled.slots-are, plan-compiled N L work slots-first))
+module _ {N : ℕ} {L : Plan} {before work in_rows in_columns : List ℕ} {r : Filled} (s : Slotted 1 N L before work in_rows in_columns r) (words : List ℕ)
+    {records : ℕ} (count : records ≡ records_of N r) where
+  same : Crout plain 1 N L
+  same = of_plain N L
 
-      -- and with slots used again
-      pub compact_ends : again ≡ true → {slots : ℕ} {work' words' : List ℕ} → slots ≡ compact_slots N L → work' ≡ work_with compact N (take (N * N) work) work
-          → words' ≡ compacted N L ++ drop (4 * record_count N L) words
-          → Ends (crout_of again) N L before words (written slots r.products records) work' words'
-      compact_ends is made left wrote =
-          done-ends (made ∙ sym (ap (λ b. slots_by (crout_of b) N L) is))
-          (left
-          ∙ sym (ap (λ b. work_with (crout_of b) N (take (N * N) work) work) is)
-          ∙ ap₂ (λ xs ys. xs ++ (replicate (spare (crout_of again) N) 0 ++ ys)) slots-first past-wanted)
-          (wrote ∙ sym (ap (λ b. program_by (crout_of b) N L ++ drop (4 * record_count N L) words) is))
+  -- the plain compiler leaves the slots,
+  pub plain-short : length words < 4 * records → Ends plain N L before words (refusal 6 records) work words
+  plain-short few = rw s.filled.written (short-ends same s words count few)
+
+  -- and writes the plain program
+  pub plain-ends : {words' : List ℕ} → 4 * records ≤ length words
+      → words' ≡ program N (length L) r.slots (plan_records N L work) ++ drop (4 * record_count N L) words
+      → Ends plain N L before words (written r.slots r.products records) work words'
+  unfolding compiled
+  plain-ends enough wrote =
+      rw s.filled.written
+      (done-ends same s words count enough s.filled.slots-are (wrote ∙ rw (s.filled.slots-are, plan-compiled N L work (slots-first same s))))
+
+module _ {N : ℕ} {L : Plan} {before work in_rows in_columns : List ℕ} {r : Filled} (s : Slotted 4 N L before work in_rows in_columns r) where
+  -- once those past the slots are cleared the second compiler's work numbers are
+  pub compact-left : (after : List ℕ) {square : ℕ} {part : List ℕ} → square ≡ N * N → take (N * N) after ≡ take (N * N) work
+      → drop (4 * (N * N)) after ≡ drop (4 * (N * N)) work → part ≡ replicate (3 * square) 0 ++ drop (3 * square) (part_of square (length after) after)
+      → with_part square (length after) after part ≡ work_with compact N (slot_numbers N L) before
+  compact-left after {square} square-is first rest e =
+      let same = of_compact N L in
+      let all : N * N + 3 * (N * N) ≡ 4 * (N * N) = omega arith in
+      cleared-part square after (3 * square) e
+      ∙ ap (λ q. take q after ++ (replicate (3 * q) 0 ++ drop (q + 3 * q) after)) square-is
+      ∙ ap₂ (λ xs ys. xs ++ (replicate (3 * (N * N)) 0 ++ ys)) (first ∙ slots-first same s)
+      (ap (λ k. drop k after) all ∙ rest ∙ past-wanted same s)

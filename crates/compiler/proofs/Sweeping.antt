@@ -1,6 +1,6 @@
 -- How compiling a sweep ends, from the positions that marking leaves in the work numbers (A.7).
 use Prim.Native.Nat.{ℕ, ◌*◌, ◌-◌, ◌≤◌, ◌<◌}
-use native.Mathlib.Nat.{mul-le-mul}
+use native.Mathlib.Nat.{mul-le-mul, one-mul}
 use native.Mathlib.Omega.{arith}
 use mathlib.Core.Path.{◌≡◌, sym, ap, ap₂, ◌∙◌}
 use mathlib.Core.Bool.{true}
@@ -22,6 +22,9 @@ use Rattle.writer.specs.Sweep.{Positions, Planned}
 pub record Placed (N : ℕ) (L : Plan) (before work : List ℕ) : Type 0 where
   pub passed : orderly (N * N) N L (length before) ≡ good
   pub marked : Marked N L before work
+
+pub placed : {N : ℕ} {L : Plan} {before work : List ℕ} → good ≡ orderly (1 * (N * N)) N L (length before) → Marked N L before work → Placed N L before work
+placed {N} orders marked = record { passed = rw (one-mul (N * N)) at (sym orders); marked = marked }
 
 module _ {N : ℕ} {L : Plan} {before work : List ℕ} (p : Placed N L before work) where
   -- what 1 to 4 tell

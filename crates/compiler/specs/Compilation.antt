@@ -1,14 +1,16 @@
 -- The compiler's answer as the model's: document 01's slots, product count and records, or its refusal's number and detail. Definitions only.
-use Rattle.std.specs.Prelude.{ℕ, Bool, true, false}
+use Rattle.std.specs.Prelude.{ℕ, ◌+◌, ◌*◌, Result, Ok, Err}
 use Rattle.model.specs.Compile.{Compiled, written, refusal, Compiler, plain, compact, sweep}
-use Rattle.compiler.specs.declared.Compilation.{Compilation}
-use Rattle.compiler.specs.declared.Compilation.TheVariants.{Written, Refused}
+use Rattle.slots.specs.declared.Filled.{Filled}
+use Rattle.refusal.specs.Named.{number_of, detail_of}
+use Rattle.refusal.specs.declared.Refusal.{Refusal}
+use Rattle.compiler.specs.declared.Written.{Written}
 use Rattle.compiler.specs.declared.Method.{Method}
 use Rattle.compiler.specs.declared.Method.TheVariants.{Plain, Compact, Sweep}
 
-abbrev pub compiled_of : Compilation → Compiled
-compiled_of (Written slots products records) = written slots products records
-compiled_of (Refused number detail) = refusal number detail
+abbrev pub compiled_of : Result Written Refusal → Compiled
+compiled_of (Ok w) = written w.slots w.products w.records
+compiled_of (Err r) = refusal (number_of r) (detail_of r)
 
 -- the model's compiler of each program
 abbrev pub compiler_of : Method → Compiler
@@ -16,13 +18,6 @@ compiler_of Plain = plain
 compiler_of Compact = compact
 compiler_of Sweep = sweep
 
--- Crout's, by whether slots are used again
-abbrev pub crout_of : Bool → Compiler
-crout_of false = plain
-crout_of true = compact
-
--- the work numbers that check 2 wants for each place of the table
-abbrev pub each_of : Compiler → ℕ
-each_of plain = 1
-each_of compact = 4
-each_of sweep = 1
+-- document 01's sum
+abbrev pub records_of : ℕ → Filled → ℕ
+records_of n r = 1 + 2 * (r.slots + 2 * n) + r.products + n + r.above

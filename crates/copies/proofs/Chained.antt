@@ -2,12 +2,12 @@
 use Prim.Native.Nat.{ℕ, suc, ◌+◌, ◌-◌, ◌*◌, ◌/◌, ◌≤◌, ◌<◌}
 use native.Mathlib.Omega.{arith}
 use mathlib.Core.Path.{◌≡◌, refl, sym, ap, ◌∙◌}
-use mathlib.Core.Bool.{Bool, true, false, cond}
-use mathlib.Core.List.{List, [], ◌∷◌}
+use mathlib.Core.Bool.{Bool, true, false}
+use mathlib.Core.List.{List, [], ◌∷◌, ◌++◌}
 use lib.ListN.{length}
 use Rattle.model.specs.Lists.{rising}
 use Rattle.model.specs.Program.{Record}
-use Rattle.model.specs.Check.{record_at, next_of, Verdict, fine, refusal}
+use Rattle.model.specs.Check.{record_at, next_of, fine, refusal}
 use Rattle.model.specs.Compare.{same_record, compared}
 use Rattle.model.proofs.Passing.{next-range}
 use Rattle.model.proofs.Following.{follows, chain_from, chain-ends, chain_breaks, chain_goes}
@@ -16,6 +16,8 @@ use Rattle.model.proofs.Spaced.{broken-whole}
 use Rattle.copies.specs.Beside.{OnChain, told, Leads}
 use Rattle.copies.specs.Compared.{first_records}
 use Rattle.copies.specs.declared.Compared.{Compared}
+use Rattle.std.specs.Prelude.{Ok, Err}
+use Rattle.refusal.specs.declared.Refusal.TheVariants.{Different}
 use Rattle.copies.proofs.Leading.{Comparing, comparing_more, comparing_ends, comparing_over}
 
 -- ---- the chain after record k
@@ -51,83 +53,77 @@ module _ {W : List ℕ} {k : ℕ} (on : OnChain W k) where
 
 -- ---- what 28 says at a record
 
-module _ (W : List ℕ) (z : Compared) (on : OnChain W z.last) (same : z.same ≡ true) where
+module _ (W : List ℕ) (z : Compared) (on : OnChain W z.last) where
   -- after the compiler's last record the chain ends, or goes on
   pub end-told : next_of W z.last ≡ 0 → fine ≡ told W z []
   unfolding told compared
-  end-told none = rw (same, links_end on none)
+  end-told none = rw (links_end on none)
 
   pub more_told : (next_of W z.last ≡ 0 → ⊥) → refusal 28 (next_of W z.last) ≡ told W z []
   unfolding told compared
-  more_told some = rw (same, links_go on some)
+  more_told some = rw (links_go on some)
 
-  -- before it the chain is too short, or its next record is compared
-  short-leads : (r : Record) (z' : Compared) → next_of W z.last ≡ 0 → z'.last ≡ z.last → z'.same ≡ false → Leads W (r ∷ []) z z'
+  -- before it the chain is too short, or its next record differs, or is the compiler's
+  short-leads : (r : Record) → next_of W z.last ≡ 0 → Leads W (r ∷ []) z (Err (Different z.last))
   unfolding told compared
-  short-leads r z' none last over more = rw (same, links_end on none, over, last)
+  short-leads r none more = rw (links_end on none)
+
+  differs_leads : (r : Record) → (next_of W z.last ≡ 0 → ⊥) → same_record r (record_at W (next_of W z.last)) ≡ false
+      → Leads W (r ∷ []) z (Err (Different (next_of W z.last)))
+  unfolding told compared
+  differs_leads r some differs more = rw (links_go on some, compared, differs)
 
   next-leads : (r : Record) (z' : Compared) → (next_of W z.last ≡ 0 → ⊥) → z'.last ≡ next_of W z.last
-      → z'.same ≡ same_record r (record_at W (next_of W z.last)) → Leads W (r ∷ []) z z'
+      → same_record r (record_at W (next_of W z.last)) ≡ true → Leads W (r ∷ []) z (Ok z')
   unfolding told compared
-  next-leads r z' some last again more = rw (same, links_go on some, again, last) (step (same_record r (record_at W (next_of W z.last))))
-    where
-      step : (b : Bool) → elim b as (λ b. Verdict) [
-        | false ↦ refusal 28 (next_of W z.last)
-        | true ↦ compared (next_of W z.last) more (chain_from W (next_of W z.last)).links
-      ] ≡ cond b (compared (next_of W z.last) more (chain_from W (next_of W z.last)).links) (refusal 28 (next_of W z.last))
-      step true = refl
-      step false = refl
+  next-leads r z' some last same more = rw (links_go on some, compared, same, last)
 
 -- ---- along a formula's records
 
 -- the first i of them, of count, are compared, from z₀ on
-pub record Going (W formula : List ℕ) (count : ℕ) (z₀ z : Compared) (i : ℕ) : Type 0 where
+pub record Going (W formula : List ℕ) (count : ℕ) (z₀ : Compared) (last i : ℕ) : Type 0 where
   pub few : i ≤ count
-  pub on : OnChain W z.last
-  pub comparing : Comparing W (first_records formula count) z₀ (rising (record_at formula) i (count - i)) z
-  pub kept : (z.done ≡ z₀.done) × (z.passed ≡ z₀.passed)
-  pub already : z.same ≡ true → z₀.same ≡ true
+  pub on : OnChain W last
+  pub comparing : Comparing W (first_records formula count) z₀ (rising (record_at formula) i (count - i)) (record z₀ { last = last })
 
--- all count of them are, as far as matters
-abbrev Ended : List ℕ → List ℕ → ℕ → Compared → Compared → Type 0
-Ended W formula count z₀ z = OnChain W z.last
-    × (Leads W (first_records formula count) z₀ z × (((z.done ≡ z₀.done) × (z.passed ≡ z₀.passed)) × (z.same ≡ true → z₀.same ≡ true)))
-
-module _ {W formula : List ℕ} {count : ℕ} where
-  module _ {z₀ z : Compared} {i : ℕ} (going : Going W formula count z₀ z i) where
-    -- one record more is compared, and leads to z'
-    turned : (z' : Compared) → z.same ≡ true → i < count → OnChain W z'.last → Leads W (record_at formula i ∷ []) z z'
-        → (z'.done ≡ z.done) × (z'.passed ≡ z.passed) → Going W formula count z₀ z' (i + 1)
+module _ {W formula : List ℕ} {count : ℕ} {z₀ : Compared} {last i : ℕ} (going : Going W formula count z₀ last i) where
+  -- a turn: the next record is the i-th of the formula
+  module _ (below : i < count) (next : ℕ) (is : next ≡ next_of W last) where
+    left-more : rising (record_at formula) i (count - i) ≡ (record_at formula i ∷ []) ++ rising (record_at formula) (i + 1) (count - (i + 1))
     unfolding rising
-    turned z' same below on leads kept =
+    left-more =
         let more : count - i ≡ suc (count - (i + 1)) = omega arith in
         let onward : suc i ≡ i + 1 = omega arith in
-        record {
-          few = omega arith;
-          on = on;
-          comparing = comparing_more going.comparing (record_at formula i ∷ []) (rw (more, onward)) leads;
-          kept = (kept.0 ∙ going.kept.0, kept.1 ∙ going.kept.1);
-          already = λ e. going.already same;
-        }
+        rw (more, onward)
 
-    -- a turn: the chain is too short, or its next record is compared
-    module _ (same : z.same ≡ true) (below : i < count) (next : ℕ) (is : next ≡ next_of W z.last) where
-      pub turned_short : next ≡ 0 → Going W formula count z₀ (record { done = z.done; passed = z.passed; last = z.last; same = false }) (i + 1)
-      turned_short none = turned _ same below going.on (short-leads W z going.on same (record_at formula i) _ (sym is ∙ none) refl refl) (refl, refl)
+    abbrev here : Compared
+    here = record z₀ { last = last }
 
-      pub turned_on : (next ≡ 0 → ⊥) → (again : Bool) → again ≡ same_record (record_at formula i) (record_at W next)
-          → Going W formula count z₀ (record { done = z.done; passed = z.passed; last = next; same = again }) (i + 1)
-      turned_on some again e =
-          let more : next_of W z.last ≡ 0 → ⊥ = λ none. some (is ∙ none) in
-          turned _ same below (rw is (next_on going.on more))
-          (next-leads W z going.on same (record_at formula i) _ more is (rw (e, is))) (refl, refl)
+    -- the chain is too short
+    pub turned_short : next ≡ 0 → Leads W (first_records formula count) z₀ (Err (Different last))
+    turned_short none = comparing_over going.comparing (record_at formula i ∷ []) _ (Different last) left-more (short-leads W here going.on (record_at formula i) (sym is ∙ none))
 
-    -- after the last turn: all are compared, or a difference is found
-    pub going-ends : count ≤ i → Ended W formula count z₀ z
-    unfolding rising
-    going-ends past =
-        let none : count - i ≡ 0 = omega arith in
-        (going.on, (comparing_ends going.comparing (rw none), (going.kept, going.already)))
+    module _ (some : next ≡ 0 → ⊥) where
+      some_next : next_of W last ≡ 0 → ⊥
+      some_next none = some (is ∙ none)
 
-    pub going-over : z.same ≡ false → Ended W formula count z₀ z
-    going-over over = (going.on, (comparing_over going.comparing over, (going.kept, going.already)))
+      -- it differs
+      pub turned_over : false ≡ same_record (record_at formula i) (record_at W next) → Leads W (first_records formula count) z₀ (Err (Different next))
+      turned_over differs =
+          comparing_over going.comparing (record_at formula i ∷ []) _ (Different next) left-more (rw is (differs_leads W here going.on (record_at formula i) some_next (rw is at (sym differs))))
+
+      -- or is the compiler's
+      pub turned_on : true ≡ same_record (record_at formula i) (record_at W next) → Going W formula count z₀ next (i + 1)
+      turned_on same =
+          record {
+            few = omega arith;
+            on = rw is (next_on going.on some_next);
+            comparing = comparing_more going.comparing (record_at formula i ∷ []) _ left-more (next-leads W here going.on (record_at formula i) (record z₀ { last = next }) some_next is (rw is at (sym same)));
+          }
+
+  -- after the last turn all are compared
+  pub going-ends : count ≤ i → Leads W (first_records formula count) z₀ (Ok (record z₀ { last = last }))
+  unfolding rising
+  going-ends past =
+      let none : count - i ≡ 0 = omega arith in
+      comparing_ends going.comparing (rw none)

@@ -1,8 +1,8 @@
 -- A line of places beside the chain: what is known before its t-th place, and where comparing the place leads.
 use Prim.Native.Nat.{ℕ, suc, ◌+◌, ◌-◌, ◌≤◌, ◌<◌}
 use native.Mathlib.Omega.{arith}
-use mathlib.Core.Path.{◌≡◌, refl, sym, ap, ◌∙◌}
-use mathlib.Core.Bool.{Bool, true, false, true≢false}
+use mathlib.Core.Path.{◌≡◌, refl, ap, ◌∙◌}
+use mathlib.Core.Bool.{Bool}
 use mathlib.Core.List.{List, ◌++◌}
 use lib.ListN.{length, get_or}
 use Rattle.model.specs.Lists.{rising, joined}
@@ -16,6 +16,8 @@ use Rattle.writer.specs.declared.Cursor.{Cursor}
 use Rattle.writer.proofs.Written.{wrote_length}
 use Rattle.writer.proofs.Products.{rising-joined, rising_none, skipped}
 use Rattle.writer.proofs.Line.{OnLine, line-place, place_of_line, line_more, line-skips, line-none}
+use Rattle.std.specs.Prelude.{Result, Ok, Err}
+use Rattle.refusal.specs.declared.Refusal.{Refusal}
 use Rattle.copies.specs.Beside.{OnChain, Leads, cursor_of}
 use Rattle.copies.specs.Compared.{first_records}
 use Rattle.copies.specs.declared.Compared.{Compared}
@@ -30,55 +32,64 @@ module _ (n : ℕ) (L : Plan) (work : List ℕ) (across : Bool) (m : ℕ) (W : L
     pub long : length formula ≡ 2412
     pub chain : OnChain W z.last
     pub comparing : Comparing W (line_records n L work across m) z₀ (joined (rising (line_at n L work across m) t (suc n - t))) z
-    pub before : z.same ≡ true → Before n L (row_of across m t) (column_of across m t) (cursor_of z)
-
-  -- the whole line is compared
-  abbrev LedOver : Compared → Type 0
-  LedOver z = OnChain W z.last
-      × (Leads W (line_records n L work across m) z₀ z × (z.same ≡ true → Before n L (row_of across m (suc n)) (column_of across m (suc n)) (cursor_of z)))
+    pub before : Before n L (row_of across m t) (column_of across m t) (cursor_of z)
 
 module _ {n : ℕ} {L : Plan} {work : List ℕ} {across : Bool} {m : ℕ} {W : List ℕ} where
   module _ {z₀ z : Compared} {formula : List ℕ} {t : ℕ} (led : Led n L work across m W z₀ formula z t) where
-    -- a record differs, or no place is left
-    pub led_differs : z.same ≡ false → LedOver n L work across m W z₀ z
-    led_differs over = (led.chain, (comparing_over led.comparing over, λ same. absurd (true≢false (sym same ∙ over))))
-
-    pub led-ends : n < t → LedOver n L work across m W z₀ z
+    -- no place is left: the whole line is compared
+    pub led-ends : n < t → Leads W (line_records n L work across m) z₀ (Ok z)
+        × Before n L (row_of across m (suc n)) (column_of across m (suc n)) (cursor_of z)
     led-ends past =
         let end : suc n ≡ t = omega (arith, led.high) in
-        (led.chain, (comparing_ends led.comparing (rising_none (line_at n L work across m) t (suc n) past), rw end led.before))
+        (comparing_ends led.comparing (rising_none (line_at n L work across m) t (suc n) past), rw end led.before)
 
     -- the t-th place is (i, j)
-    module _ {in_rows in_columns : List ℕ} (ready : Ready n L work in_rows in_columns) (inside : Inside n m m) (same : z.same ≡ true) (below : t ≤ n)
+    module _ {in_rows in_columns : List ℕ} (ready : Ready n L work in_rows in_columns) (inside : Inside n m m) (below : t ≤ n)
         {i j divisor : ℕ} (row : i ≡ row_of across m t) (column : j ≡ column_of across m t) (e : divisor ≡ divisor_of n work across m) where
       on_line : OnLine n L across m (cursor_of z) t
-      on_line = record { low = led.low; before = led.before same }
+      on_line = record { low = led.low; before = led.before }
 
       pub led-place : Inside n i j × (Before n L i j (cursor_of z) × Room 0 0 (place_at n L work divisor i j) formula)
       led-place =
           let place = line-place on_line row column inside below in
           (place.0, (place.1, place-room ready divisor i j place.0 led.long))
 
-      -- it is compared, and d after it have no records
-      pub led_more : (after : Cursor) {formula' : List ℕ} → Wrote 0 0 (place_at n L work divisor i j) formula formula' after.next
-          → (after.done ≡ suc z.done) × (after.passed ≡ passed_by L after.done)
-          → (d : ℕ) → t + 1 + d ≤ suc n → ((k : ℕ) → k < d → get_or work (after.done + k) 0 ≡ 0)
-          → (z' : Compared) → OnChain W z'.last
-          → Leads W (first_records formula' after.next) (record { done = after.done + d; passed = after.passed; last = z.last; same = z.same }) z'
-          → (z'.done ≡ after.done + d) × (z'.passed ≡ after.passed) → Led n L work across m W z₀ formula' z' (t + (d + 1))
-      led_more after wrote moved d far none z' chain leads kept =
-          let f = line_at n L work across m in
-          let here = rw (← place_of_line on_line row column work e) at (formula_leads wrote W _ z' leads) in
-          let place = leads_like W (f t) _ z z' refl refl here in
-          let next = line_more on_line after moved in
-          let there = (line-skips ready inside next d far none).before in
-          let on : t + (d + 1) ≡ t + 1 + d = omega arith in
-          let none_after = skipped f (t + 1) d (suc n) (λ k low high below. line-none ready inside next d far none k low high) in
-          record {
-            low = omega (arith, led.low);
-            high = omega arith;
-            long = wrote_length led-place.1.1 wrote ∙ led.long;
-            chain = chain;
-            comparing = rw on (comparing_more led.comparing (f t) (rising-joined f t (suc n) (omega arith) ∙ ap (λ rs. f t ++ rs) none_after) place);
-            before = λ same'. rw on (record { here = rw kept.0 there.here; passed = rw (kept.0, kept.1) there.passed });
-          }
+      -- its formula is written, and d places after it have no records
+      module _ (after : Cursor) {formula' : List ℕ} (wrote : Wrote 0 0 (place_at n L work divisor i j) formula formula' after.next)
+          (moved : (after.done ≡ suc z.done) × (after.passed ≡ passed_by L after.done))
+          (d : ℕ) (far : t + 1 + d ≤ suc n) (none : (k : ℕ) → k < d → get_or work (after.done + k) 0 ≡ 0) where
+        abbrev reached : Compared
+        reached = record { done = after.done + d; passed = after.passed; last = z.last }
+
+        next_line : OnLine n L across m after (t + 1)
+        next_line = line_more on_line after moved
+
+        -- what its comparing leads to
+        here : (then : Result Compared Refusal) → Leads W (first_records formula' after.next) reached then → Leads W (line_at n L work across m t) z then
+        here then leads =
+            let place = rw (← place_of_line on_line row column work e) at (formula_leads wrote W reached then leads) in
+            leads_like W (line_at n L work across m t) reached z then refl place
+
+        left : joined (rising (line_at n L work across m) t (suc n - t))
+            ≡ line_at n L work across m t ++ joined (rising (line_at n L work across m) (t + 1 + d) (suc n - (t + 1 + d)))
+        left =
+            let f = line_at n L work across m in
+            let none_after = skipped f (t + 1) d (suc n) (λ k low high below. line-none ready inside next_line d far none k low high) in
+            rising-joined f t (suc n) (omega arith) ∙ ap (λ rs. f t ++ rs) none_after
+
+        pub led_over : (r : Refusal) → Leads W (first_records formula' after.next) reached (Err r) → Leads W (line_records n L work across m) z₀ (Err r)
+        led_over r leads = comparing_over led.comparing (line_at n L work across m t) _ r left (here (Err r) leads)
+
+        pub led_more : (z' : Compared) → OnChain W z'.last → Leads W (first_records formula' after.next) reached (Ok z')
+            → (z'.done ≡ after.done + d) × (z'.passed ≡ after.passed) → Led n L work across m W z₀ formula' z' (t + (d + 1))
+        led_more z' chain leads kept =
+            let there = (line-skips ready inside next_line d far none).before in
+            let on : t + (d + 1) ≡ t + 1 + d = omega arith in
+            record {
+              low = omega (arith, led.low);
+              high = omega arith;
+              long = wrote_length led-place.1.1 wrote ∙ led.long;
+              chain = chain;
+              comparing = rw on (comparing_more led.comparing (line_at n L work across m t) _ left (here (Ok z') leads));
+              before = rw on (record { here = rw kept.0 there.here; passed = rw (kept.0, kept.1) there.passed });
+            }

@@ -23,6 +23,8 @@ use Rattle.writer.specs.Written.{linked, pasted, Room, Wrote}
 use Rattle.writer.specs.Worked.{Covers, number_at, kept_at, formula_at}
 use Rattle.writer.specs.Line.{Ready, place_at, y_at, x_at}
 use Rattle.writer.proofs.Written.{wrote_length}
+use Rattle.std.specs.Prelude.{Result}
+use Rattle.refusal.specs.declared.Refusal.{Refusal}
 use Rattle.copies.specs.Beside.{Leads}
 use Rattle.copies.specs.Compared.{first_records}
 use Rattle.copies.specs.declared.Compared.{Compared}
@@ -65,8 +67,8 @@ formula_records rs before after next wrote =
 
 -- so comparing the row's first records is comparing these, and they fit
 module _ {rs : List Record} {before after : List ℕ} {next : ℕ} (wrote : Wrote 0 0 rs before after next) where
-  pub formula_leads : (W : List ℕ) (z z' : Compared) → Leads W (first_records after next) z z' → Leads W rs z z'
-  formula_leads W z z' leads = rw (formula_records rs before after next wrote) at leads
+  pub formula_leads : (W : List ℕ) (z : Compared) (then : Result Compared Refusal) → Leads W (first_records after next) z then → Leads W rs z then
+  formula_leads W z then leads = rw (formula_records rs before after next wrote) at leads
 
   pub formula_fits : Room 0 0 rs before → length before ≡ 2412 → (4 * next ≤ length after) × (next ≤ 603)
   formula_fits room long = omega (arith, wrote_length room wrote)

@@ -1,65 +1,44 @@
 // Programs edited by hand: whether a program is the one compiled for a plan, but for unused records between its own. Document 02, A.10.
 #![tactic(auto)]
 
-ghost use Rattle.std.specs.Prelude.{◌≡◌, true, [], length, suc, ◌+◌, ◌*◌, ◌≤◌, ◌<◌};
+ghost use Rattle.std.specs.Prelude.{◌≡◌, [], IfOk, length, suc, ◌+◌, ◌*◌, ◌≤◌, ◌<◌};
 ghost use Rattle.model.specs.Check.{record_at, chain};
-ghost use Rattle.model.specs.Compile.{good, orderly};
 ghost use Rattle.model.specs.Compare.{same_record, compares, work_compared};
 ghost use Rattle.model.specs.Compare;
 ghost use Rattle.model.proofs.Labels.{Inside};
 ghost use Rattle.slots.specs.Batch.{row_of, column_of, first_of};
-ghost use Rattle.writer.specs.Worked.{Covers};
-ghost use Rattle.writer.specs.Line.{Ready, Before, divisor_of, line_records, batch_at, batch_records, solution_records, plan_records};
-ghost use Rattle.checker.specs.Checked.{verdict_of};
+ghost use Rattle.writer.specs.Line.{Before, divisor_of, line_records, batch_at, batch_records, solution_records, plan_records};
+ghost use Rattle.refusal.specs.Named.{verdict_of};
 ghost use Rattle.copies.specs.Beside.{OnChain, told, Leads, cursor_of};
 ghost use Rattle.copies.specs.Beside;
 ghost use Rattle.copies.specs.Compared.{first_records, head_is, SlotsStand, Compares};
 
-use checker::Checked;
 use numbers::wide;
-use plans::Judged;
+use refusal::Refusal;
+use slots::Firsts;
 use slots::lines::{column_of, first_of, row_of, zeros};
+use writer::slotted::Slotted;
 use writer::{Cursor, write_backward, write_forward, write_next};
 
-// How far a program is compared: the places done, the plan's labels among them, and the last chained record compared, 0 before the first; and
-// whether that is still the compiler's. If it isn't, 28 names it.
+// How far a program is compared, and is the compiler's: the places done, the plan's labels among them, and the last chained record compared, 0
+// before the first.
+// Kept: OnChain is no ghost field here, since it is of the words too; a borrow of them in each Compared is no plainer.
 #[derive(Clone, Copy)]
 pub struct Compared {
     pub done: u32,
     pub passed: u32,
     pub last: usize,
-    pub same: bool,
 }
 
 // 1 to 5 of a plan, then 7 to 13 of a program, then 28: N, n, s and the chain's kinds and operands are the compiler's for the plan. After 7 to
 // 13, 28 and success the work numbers are the plan's slots, as the compiler leaves them.
-pub fn compare(n: u32, plan: &[u32], work: &mut [u32], words: &[u32]) -> Checked
+pub fn compare(n: u32, plan: &[u32], work: &mut [u32], words: &[u32]) -> Result<(), Refusal>
     ensures answer { verdict_of result ≡ compares n plan.now (length work.old) words.now }
     ensures work { work.new ≡ work_compared n plan.now work.old }
 {
-    match plans::check(n, plan, work.len(), 1) {
-        Judged::Bad { number, detail } => Checked::Refused { number, detail },
-        Judged::Good => compare_good(n, plan, work, words),
-    }
-}
-
-// The same for a plan that 1 to 4 let through.
-fn compare_good(n: u32, plan: &[u32], work: &mut [u32], words: &[u32]) -> Checked
-    requires { orderly (n * n) n plan.now (length work.old) ≡ good }
-    ensures result_value { verdict_of result ≡ compares n plan.now (length work.old) words.now }
-    ensures work_after { work.new ≡ work_compared n plan.now work.old }
-{
-    let mut rows = [601u32; 601];
-    let mut columns = [601u32; 601];
-    let filled = plans::slot(n, plan, work, &mut rows, &mut columns, 1);
-    let missing = filled.missing;
-    if missing != 0 {
-        return Checked::Refused {
-            number: 5,
-            detail: missing as u64,
-        };
-    }
-    compare_program(n, plan, work, &rows, &columns, words, filled.slots)
+    let mut firsts = Firsts::new();
+    let filled = plans::slots(n, plan, work, &mut firsts, 1)?;
+    compare_program(n, plan, work, &firsts, words, filled.slots)
 }
 
 // The same once the slots stand in the work numbers.
@@ -67,25 +46,25 @@ fn compare_program(
     n: u32,
     plan: &[u32],
     work: &[u32],
-    rows: &[u32],
-    columns: &[u32],
+    firsts: &Firsts,
     words: &[u32],
     slots: u32,
-) -> Checked
-    requires { SlotsStand n plan.now work.now rows.now columns.now slots }
+) -> Result<(), Refusal>
+    requires { SlotsStand n plan.now work.now firsts.now.rows firsts.now.columns slots }
     ensures { Compares n plan.now words.now (verdict_of result) }
 {
-    let checked = checker::check(words);
-    if let Checked::Refused { number, detail } = checked {
-        return Checked::Refused { number, detail };
-    }
+    checker::check(words)?;
     if !head_is(words, n, plan.len(), slots) {
-        return Checked::Refused {
-            number: 28,
-            detail: 0,
-        };
+        return Err(Refusal::Different { record: 0 });
     }
-    compare_records(n, plan, work, rows, columns, words)
+    let slotted = Slotted {
+        n,
+        plan,
+        work,
+        rows: &firsts.rows,
+        columns: &firsts.columns,
+    };
+    compare_records(&slotted, words)
 }
 
 // Whether record 0 is N, n and s.
@@ -98,189 +77,167 @@ fn head_is(words: &[u32], n: u32, labels: usize, slots: u32) -> bool
 
 // 28 along the chain, beside the records of each formula in turn: these stand one after another in `formula`, which has room for the
 // longest.
-fn compare_records(
-    n: u32,
-    plan: &[u32],
-    work: &[u32],
-    rows: &[u32],
-    columns: &[u32],
-    words: &[u32],
-) -> Checked
-    requires ready { Ready n plan.now work.now rows.now columns.now }
+// Kept: one walk for this and for writer is no plainer: a trait for what is done with a formula would have Wrote and Leads for laws.
+fn compare_records(slotted: &Slotted, words: &[u32]) -> Result<(), Refusal>
     requires on_chain { OnChain words.now 0 }
-    ensures { verdict_of result ≡ Compare.compared 0 (plan_records n plan.now work.now) (chain words.now).links }
+    ensures { verdict_of result ≡ Compare.compared 0 (plan_records slotted.now.n slotted.now.plan.now slotted.now.work.now)
+        (chain words.now).links }
 {
     let mut formula = [0u32; 2412];
-    let batches = compare_batches(n, plan, work, rows, columns, words, &mut formula);
-    let solution = compare_solution(n, work, words, &mut formula, batches);
+    let batches = compare_batches(slotted, words, &mut formula)?;
+    let solution = compare_solution(slotted, words, &mut formula, batches)?;
     at_end(words, solution)
 }
 
 // The batches, in order.
 fn compare_batches(
-    n: u32,
-    plan: &[u32],
-    work: &[u32],
-    rows: &[u32],
-    columns: &[u32],
+    slotted: &Slotted,
     words: &[u32],
     formula: &mut [u32],
-) -> Compared
-    requires ready { Ready n plan.now work.now rows.now columns.now }
+) -> Result<Compared, Refusal>
     requires on_chain { OnChain words.now 0 }
     requires formula_len { length formula.old ≡ 2412 }
-    ensures on_chain_2 { OnChain words.now result.last }
-    ensures leads { Leads words.now (batch_records n plan.now work.now) Beside.begun result }
+    ensures on_chain_2 { IfOk result (λ z. OnChain words.now z.last) }
+    ensures leads { Leads words.now (batch_records slotted.now.n slotted.now.plan.now slotted.now.work.now) Beside.begun result }
 {
     let mut z = Compared {
         done: 0,
         passed: 0,
         last: 0,
-        same: true,
     };
-    let mut m = 1;
-    while z.same && m <= n {
-        z = compare_batch(n, plan, work, rows, columns, words, formula, m, z);
-        m += 1;
+    for m in 1..=slotted.n {
+        z = compare_batch(slotted, words, formula, m, z)?;
     }
-    z
+    Ok(z)
 }
 
 // Batch m: its column, y(m), and its row.
 fn compare_batch(
-    n: u32,
-    plan: &[u32],
-    work: &[u32],
-    rows: &[u32],
-    columns: &[u32],
+    slotted: &Slotted,
     words: &[u32],
     formula: &mut [u32],
     m: u32,
     z: Compared,
-) -> Compared
-    requires ready { Ready n plan.now work.now rows.now columns.now }
-    requires inside { Inside n m m }
-    requires before { Before n plan.now m m (cursor_of z) }
+) -> Result<Compared, Refusal>
+    requires inside { Inside slotted.now.n m m }
+    requires before { Before slotted.now.n slotted.now.plan.now m m (cursor_of z) }
     requires on_chain { OnChain words.now z.last }
     requires formula_len { length formula.old ≡ 2412 }
-    ensures on_chain_2 { OnChain words.now result.last }
-    ensures leads { Leads words.now (batch_at n plan.now work.now m) z result }
-    ensures before_2 { result.same ≡ true → Before n plan.now (suc m) (suc m) (cursor_of result) }
+    ensures on_chain_2 { IfOk result (λ z'. OnChain words.now z'.last) }
+    ensures leads { Leads words.now (batch_at slotted.now.n slotted.now.plan.now slotted.now.work.now m) z result }
+    ensures before_2 { IfOk result (λ z'. Before slotted.now.n slotted.now.plan.now (suc m) (suc m) (cursor_of z')) }
 {
     let done = z.done;
-    let pivot = work[wide(done)];
-    let column = compare_line(n, plan, work, rows, columns, words, formula, m, false, 0, z);
-    let count = write_forward(n, work, formula, 0, m, pivot, rows[wide(m)]);
-    let forward = compare_formula(words, formula, count, column);
-    compare_line(
-        n, plan, work, rows, columns, words, formula, m, true, pivot, forward,
-    )
+    let pivot = slotted.work[wide(done)];
+    let column = compare_line(slotted, words, formula, m, false, 0, z)?;
+    let count = write_forward(
+        slotted.n,
+        slotted.work,
+        formula,
+        0,
+        m,
+        pivot,
+        slotted.rows[wide(m)],
+    );
+    let forward = compare_formula(words, formula, count, column)?;
+    compare_line(slotted, words, formula, m, true, pivot, forward)
 }
 
 // Batch m's column from the diagonal down or, across, its row right of the diagonal; a row's formulas are divided by the pivot.
+// Kept: across as a bool, as row_of and column_of take it.
 fn compare_line(
-    n: u32,
-    plan: &[u32],
-    work: &[u32],
-    rows: &[u32],
-    columns: &[u32],
+    slotted: &Slotted,
     words: &[u32],
     formula: &mut [u32],
     m: u32,
     across: bool,
     divisor: u32,
     z: Compared,
-) -> Compared
-    requires ready { Ready n plan.now work.now rows.now columns.now }
-    requires inside { Inside n m m }
-    requires divisor_value { divisor ≡ divisor_of n work.now across m }
-    requires before { z.same ≡ true → Before n plan.now (row_of across m (first_of across m)) (column_of across m (first_of across m)) (cursor_of z) }
+) -> Result<Compared, Refusal>
+    requires inside { Inside slotted.now.n m m }
+    requires divisor_value { divisor ≡ divisor_of slotted.now.n slotted.now.work.now across m }
+    requires before { Before slotted.now.n slotted.now.plan.now (row_of across m (first_of across m)) (column_of across m (first_of across m)) (cursor_of z) }
     requires on_chain { OnChain words.now z.last }
     requires formula_len { length formula.old ≡ 2412 }
-    ensures on_chain_2 { OnChain words.now result.last }
-    ensures leads { Leads words.now (line_records n plan.now work.now across m) z result }
-    ensures before_2 { result.same ≡ true → Before n plan.now (row_of across m (suc n)) (column_of across m (suc n)) (cursor_of result) }
+    ensures on_chain_2 { IfOk result (λ z'. OnChain words.now z'.last) }
+    ensures leads { Leads words.now (line_records slotted.now.n slotted.now.plan.now slotted.now.work.now across m) z result }
+    ensures before_2 { IfOk result (λ z'. Before slotted.now.n slotted.now.plan.now (row_of across m (suc slotted.now.n)) (column_of across m (suc slotted.now.n)) (cursor_of z')) }
 {
     let mut z = z;
     let mut t = first_of(across, m);
-    while z.same && t <= n {
+    // By hand: t passes over the run of places that are not held, whose length a turn finds; a `for` has no such step.
+    while t <= slotted.n {
         let next = Cursor {
             next: 0,
             done: z.done,
             passed: z.passed,
         };
-        let at = write_next(
-            n,
-            plan,
-            work,
-            rows,
-            columns,
-            formula,
-            row_of(across, m, t),
-            column_of(across, m, t),
-            divisor,
-            next,
-        );
-        let empty = zeros(work, wide(at.done), n - t);
-        z.done = at.done + empty;
-        z.passed = at.passed;
-        z = compare_formula(words, formula, at.next, z);
+        let i = row_of(across, m, t);
+        let j = column_of(across, m, t);
+        let at = write_next(slotted, formula, i, j, divisor, next);
+        let empty = zeros(slotted.work, wide(at.done), slotted.n - t);
+        let reached = Compared {
+            done: at.done + empty,
+            passed: at.passed,
+            last: z.last,
+        };
+        z = compare_formula(words, formula, at.next, reached)?;
         t += empty + 1;
     }
-    z
+    Ok(z)
 }
 
 // x(i) for i = n..1.
 fn compare_solution(
-    n: u32,
-    work: &[u32],
+    slotted: &Slotted,
     words: &[u32],
     formula: &mut [u32],
     z: Compared,
-) -> Compared
-    requires covers { Covers n work.now }
+) -> Result<Compared, Refusal>
     requires on_chain { OnChain words.now z.last }
     requires formula_len { length formula.old ≡ 2412 }
-    ensures on_chain_2 { OnChain words.now result.last }
-    ensures leads { Leads words.now (solution_records n work.now) z result }
+    ensures on_chain_2 { IfOk result (λ z'. OnChain words.now z'.last) }
+    ensures leads { Leads words.now (solution_records slotted.now.n slotted.now.work.now) z result }
 {
     let mut z = z;
-    let mut i = n;
-    while z.same && 0 < i {
-        let count = write_backward(n, work, formula, 0, i);
-        z = compare_formula(words, formula, count, z);
-        i -= 1;
+    for i in (1..=slotted.n).rev() {
+        let count = write_backward(slotted.n, slotted.work, formula, 0, i);
+        z = compare_formula(words, formula, count, z)?;
     }
-    z
+    Ok(z)
 }
 
-// The chain beside the first count records of a formula, unless it differs already. 28 names the first that differs, or the last one if the
-// chain is too short.
-fn compare_formula(words: &[u32], formula: &[u32], count: u32, z: Compared) -> Compared
+// The chain beside the first count records of a formula. 28 names the first that differs, or the last one if the chain is too short.
+fn compare_formula(
+    words: &[u32],
+    formula: &[u32],
+    count: u32,
+    z: Compared,
+) -> Result<Compared, Refusal>
     requires on_chain { OnChain words.now z.last }
     requires count_in_bounds { (4 * count ≤ length formula.now) × (count ≤ 603) }
-    ensures on_chain_2 { OnChain words.now result.last }
+    ensures on_chain_2 { IfOk result (λ z'. OnChain words.now z'.last) }
     ensures leads { Leads words.now (first_records formula.now count) z result }
-    ensures done_value { (result.done ≡ z.done) × (result.passed ≡ z.passed) }
-    ensures same_value { result.same ≡ true → z.same ≡ true }
+    ensures done_value { IfOk result (λ z'. (z'.done ≡ z.done) × (z'.passed ≡ z.passed)) }
 {
-    let end = wide(count);
-    let mut z = z;
-    let mut i = 0;
-    while z.same && i < end {
-        let next = wide(words[4 * z.last + 3]);
-        if next == 0 {
-            z.same = false;
-        } else {
-            z.last = next;
-            z.same = is_same(words, next, formula, i);
+    let mut last = z.last;
+    for i in 0..wide(count) {
+        let k = wide(words[4 * last + 3]);
+        if k == 0 {
+            return Err(Refusal::Different {
+                record: last as u64,
+            });
         }
-        i += 1;
+        if !is_same(words, k, formula, i) {
+            return Err(Refusal::Different { record: k as u64 });
+        }
+        last = k;
     }
-    z
+    Ok(Compared { last, ..z })
 }
 
 // Whether record k of a program has the kind and the operands of record i of a formula.
+#[tactic(auto, unfolding(model::specs::Compare::same_record))]
 fn is_same(words: &[u32], k: usize, formula: &[u32], i: usize) -> bool
     requires { (4 * k + 3 < length words.now) × (4 * i + 3 < length formula.now) }
     ensures { result ≡ same_record (record_at formula.now i) (record_at words.now k) }
@@ -292,23 +249,16 @@ fn is_same(words: &[u32], k: usize, formula: &[u32], i: usize) -> bool
 }
 
 // No record may come after the compiler's last.
-fn at_end(words: &[u32], z: Compared) -> Checked
+fn at_end(words: &[u32], z: Compared) -> Result<(), Refusal>
     requires { OnChain words.now z.last }
     ensures { verdict_of result ≡ told words.now z [] }
 {
     let last = z.last;
-    if !z.same {
-        return Checked::Refused {
-            number: 28,
-            detail: last as u64,
-        };
-    }
     let next = words[4 * last + 3];
     if next != 0 {
-        return Checked::Refused {
-            number: 28,
-            detail: next as u64,
-        };
+        return Err(Refusal::Different {
+            record: next as u64,
+        });
     }
-    Checked::Fine
+    Ok(())
 }

@@ -1,10 +1,14 @@
 -- What the three fields of a float's bits say of its value: its sign, and its digits shifted by one less than the exponent.
-use Prim.Native.Nat.{ℕ, zero, suc, ◌+◌, ◌-◌, ◌*◌, ◌/◌, ◌%◌, ◌^◌}
-use native.Mathlib.Nat.{add_comm, mul-div_cancel}
+use Prim.Native.Nat.{ℕ, zero, suc, ◌+◌, ◌-◌, ◌*◌, ◌/◌, ◌%◌, ◌^◌, ◌<◌}
+use native.Mathlib.Nat.{mul-div_cancel}
 use native.Mathlib.Omega.{arith}
 use mathlib.Core.Path.{◌≡◌, refl, sym, ap, ◌∙◌}
 use mathlib.Core.Bool.{Bool, true, false, cond, not, false≢true}
 use lib.Dec.{T, leb, eqb}
+use Rattle.std.specs.Prelude.{bit_and}
+use Rattle.std.proofs.lemmas.Nat.{and_mask}
+use Rattle.std.proofs.lemmas.Bool.Decides.{nat_tests}
+use Rattle.std.specs.Int.Bits.{mask_lt}
 use lib.Ieee.{Float, nan, inf, fin, binary64, down, odd, fits, is_nan, of_fields, of_bits, to_bits}
 use lib.Ieee.Fits.{down_pos}
 use lib.Ieee.Exact.{HasValue, odd_sign}
@@ -48,27 +52,37 @@ large s (suc x) t n f = rw (less_one x) (go (eqb (suc x) 2047) (eqb t 0) f)
     go true false f = absurd (false≢true f)
     go false none f = exact_of (odd 53 s (2 ^ 52 + t) x 1074) s ((2 ^ 52 + t) * 2 ^ x) (odd_sign 53 s (2 ^ 52 + t) x 1074)
 
--- ---- by the bits
+-- ---- by the bits, with shifts and masks of them
 
 abbrev negative : ℕ → Bool
-negative bits = leb (2 ^ 63) bits
+negative bits = not (eqb (bits / 2 ^ 63) 0)
 
 abbrev exponent : ℕ → ℕ
-exponent bits = bits % 2 ^ 63 / 2 ^ 52
+exponent bits = bit_and (bits / 2 ^ 52) (2 ^ 11 - 1)
 
 abbrev fraction : ℕ → ℕ
-fraction bits = bits % 2 ^ 52
+fraction bits = bit_and bits (2 ^ 52 - 1)
+
+negative-is : (bits : ℕ) → negative bits ≡ leb (2 ^ 63) bits
+negative-is bits = grind (arith, nat_tests)
+
+exponent-is : (bits : ℕ) → exponent bits ≡ bits % 2 ^ 63 / 2 ^ 52
+exponent-is bits = and_mask (bits / 2 ^ 52) 11 ∙ omega arith
+
+pub few_digits : (bits : ℕ) → fraction bits < 2 ^ 52
+few_digits bits = mask_lt bits 52
+
+pub exponent_below : (bits : ℕ) → exponent bits < 2 ^ 11
+exponent_below bits = mask_lt (bits / 2 ^ 52) 11
 
 module _ (v : Float) (held : T (fits binary64 v)) where
-  pub exact_small : let b = to_bits binary64 v in exponent b ≡ 0 → exact v ≡ signed (negative b) (fraction b * 2 ^ 0)
+  fields : let b = to_bits binary64 v in of_fields binary64 (negative b) (exponent b) (fraction b) ≡ v
   unfolding of_bits
-  exact_small e = let b = to_bits binary64 v in ap exact (sym (of_bits-to_bits binary64 v held)) ∙ small (negative b) (exponent b) (fraction b) e
+  fields = let b = to_bits binary64 v in rw (negative-is b, exponent-is b, and_mask b 52) (of_bits-to_bits binary64 v held)
 
-  pub exact-large : let b = to_bits binary64 v in is_finite v ≡ true → (exponent b ≡ 0 → ⊥) → exact v ≡ signed (negative b) ((fraction b + 2 ^ 52) * 2 ^ (exponent b - 1))
-  unfolding of_bits
+  pub exact_small : let b = to_bits binary64 v in exponent b ≡ 0 → exact v ≡ signed (negative b) (fraction b * 2 ^ 0)
+  exact_small e = let b = to_bits binary64 v in ap exact (sym fields) ∙ small (negative b) (exponent b) (fraction b) e
+
+  pub exact-large : let b = to_bits binary64 v in is_finite v ≡ true → (exponent b ≡ 0 → ⊥) → exact v ≡ signed (negative b) ((2 ^ 52 + fraction b) * 2 ^ (exponent b - 1))
   exact-large f n =
-      let b = to_bits binary64 v in
-      let back = of_bits-to_bits binary64 v held in
-      ap exact (sym back)
-      ∙ large (negative b) (exponent b) (fraction b) n (ap is_finite back ∙ f)
-      ∙ ap (λ d. signed (negative b) (d * 2 ^ (exponent b - 1))) (add_comm (2 ^ 52) (fraction b))
+      let b = to_bits binary64 v in ap exact (sym fields) ∙ large (negative b) (exponent b) (fraction b) n (ap is_finite fields ∙ f)

@@ -1,7 +1,7 @@
-// A finite value as a whole number of 2^-1074, and the product of two numbers of 53 binary digits. Document 02, A.4.
+// A finite value as a whole number of 2^-1074, and the product of two numbers of 64 binary digits. Document 02, A.4.
 #![tactic(auto)]
 
-ghost use Rattle.std.specs.Prelude.{◌≡◌, true, ◌+◌, ◌*◌, ◌^◌, ◌<◌};
+ghost use Rattle.std.specs.Prelude.{◌≡◌, true, ◌+◌, ◌*◌, ◌^◌};
 ghost use Rattle.model.specs.Arith.{is_finite};
 ghost use Rattle.digits.specs.Parted.{Parted};
 
@@ -20,16 +20,19 @@ pub struct Wide {
     pub high: u64,
 }
 
+// A leading digit, above a fraction's 52 bits.
+const LEADING: u64 = 1 << 52;
+
 // v 2^1074 = ± digits 2^shift: the digits have their leading 1 where the exponent isn't 0, and are shifted by one less than it.
 pub fn parts(v: f64) -> Shifted
     requires { is_finite v ≡ true }
     ensures { Parted v result }
 {
     // bit 63, bits 62 to 52, and bits 51 to 0
-    let bits = f64::to_bits(v);
-    let minus = 9223372036854775808 <= bits;
-    let exponent = bits % 9223372036854775808 / 4503599627370496;
-    let fraction = bits % 4503599627370496;
+    let bits = v.to_bits();
+    let minus = bits >> 63 != 0;
+    let exponent = ((bits >> 52) & 0x7ff) as u32;
+    let fraction = bits & (LEADING - 1);
     if exponent == 0 {
         return Shifted {
             minus,
@@ -39,26 +42,15 @@ pub fn parts(v: f64) -> Shifted
     }
     Shifted {
         minus,
-        digits: fraction + 4503599627370496,
-        shift: exponent as u32 - 1,
+        digits: LEADING + fraction,
+        shift: exponent - 1,
     }
 }
 
-// a b = low + 2^64 high, by halves of 32 bits.
+// a b = low + 2^64 high.
 pub fn product(a: u64, b: u64) -> Wide
-    requires { (a < 2 ^ 53) × (b < 2 ^ 53) }
     ensures { result.low + 2 ^ 64 * result.high ≡ a * b }
 {
-    let half = 4294967296;
-    let a_low = a % half;
-    let a_high = a / half;
-    let b_low = b % half;
-    let b_high = b / half;
-    let least = a_low * b_low;
-    // two products below 2^53 and a half
-    let middle = a_low * b_high + a_high * b_low + least / half;
-    Wide {
-        low: middle % half * half + least % half,
-        high: a_high * b_high + middle / half,
-    }
+    let (low, high) = a.carrying_mul(b, 0);
+    Wide { low, high }
 }

@@ -19,29 +19,25 @@ use Rattle.exchange.specs.Stood.{Stood, Neighbours, Beyond, Counts, first_line, 
 use Rattle.exchange.specs.declared.Past.{Past}
 use Rattle.exchange.proofs.Lines.{line-label, line-inside, line-held, second_inside, second_beyond}
 
--- the sum over the lines past t + 1 up to k
+-- the sum over the lines past t + 1, before the place k
 abbrev pub up_to : (ℕ → Bool) → (ℕ → Bool) → Bool → ℕ → ℕ → ℕ
-up_to first second link t k = total (rising (λ k. pair (first k) (second k) link) (suc (suc t)) (k - suc t))
+up_to first second link t k = total (rising (λ k. pair (first k) (second k) link) (suc (suc t)) (k - suc (suc t)))
 
-pub record Counting (N : ℕ) (P : Plan) (t : ℕ) (across : Bool) (first second before after k : ℕ) : Type 0 where
-  pub low : suc t ≤ k
-  pub high : k ≤ N
-  pub first-at : suc first ≡ label N t t + cond across (N - t) 0 + (k - t)
-  pub second_at : suc second ≡ label N (suc t) (suc t) + cond across (N - suc t) 0 + (k - suc t)
+pub record Counting (N : ℕ) (P : Plan) (t : ℕ) (across : Bool) (before after k : ℕ) : Type 0 where
   pub before_is : before ≡ up_to (first_line N P t across) (second_line N P t across) (linked N P t across) t k
   pub after_is : after ≡ up_to (second_line N P t across) (first_line N P t across) (linked N P t (not across)) t k
 
-up_to_start : (first second : ℕ → Bool) (link : Bool) (t : ℕ) → 0 ≡ up_to first second link t (suc t)
+up_to_start : (first second : ℕ → Bool) (link : Bool) (t : ℕ) → 0 ≡ up_to first second link t (suc (suc t))
 unfolding total rising
-up_to_start first second link t = let none : suc t - suc t ≡ 0 = omega arith in rw none
+up_to_start first second link t = let none : suc (suc t) - suc (suc t) ≡ 0 = omega arith in rw none
 
-up_to_more : (first second : ℕ → Bool) (link : Bool) (t k : ℕ) → suc t ≤ k
-    → up_to first second link t k + pair (first (suc k)) (second (suc k)) link ≡ up_to first second link t (suc k)
+up_to_more : (first second : ℕ → Bool) (link : Bool) (t k : ℕ) → suc (suc t) ≤ k
+    → up_to first second link t k + pair (first k) (second k) link ≡ up_to first second link t (suc k)
 up_to_more first second link t k h =
-    let size : suc k - suc t ≡ suc (k - suc t) = omega arith in
-    let last : suc (suc t) + (k - suc t) ≡ suc k = omega arith in
+    let size : suc k - suc (suc t) ≡ suc (k - suc (suc t)) = omega arith in
+    let last : suc (suc t) + (k - suc (suc t)) ≡ k = omega arith in
     sym (ap (λ n. total (rising (λ k. pair (first k) (second k) link) (suc (suc t)) n)) size
-    ∙ rising-last (λ k. pair (first k) (second k) link) (suc (suc t)) (k - suc t)
+    ∙ rising-last (λ k. pair (first k) (second k) link) (suc (suc t)) (k - suc (suc t))
     ∙ ap (λ n. up_to first second link t k + pair (first n) (second n) link) last)
 
 pub pair_few : (a b c : Bool) → pair a b c ≤ 2
@@ -50,107 +46,98 @@ pair_few true false c = omega (arith, at_most_one c)
 pair_few false true c = omega arith
 pair_few false false c = omega arith
 
-up_to_few : (first second : ℕ → Bool) (link : Bool) (t k : ℕ) → up_to first second link t k ≤ 2 * k
+up_to_few : (first second : ℕ → Bool) (link : Bool) (t k : ℕ) → up_to first second link t k ≤ (k - suc (suc t)) * 2
 up_to_few first second link t k =
-    omega (arith, rising-at_most (λ k. pair (first k) (second k) link) 2 (suc (suc t)) (k - suc t) (λ n low high. pair_few (first n) (second n) link))
+    rising-at_most (λ k. pair (first k) (second k) link) 2 (suc (suc t)) (k - suc (suc t)) (λ n low high. pair_few (first n) (second n) link)
 
 module _ {N : ℕ} {L : Plan} {p : Numbering} {work in_rows in_columns : List ℕ} (s : Stood N L p work in_rows in_columns) {t : ℕ} (near : Neighbours N t) where
   abbrev P : Plan
   P = renumbered N L p
 
-  -- the pivots' labels are small
-  pivots_small : (label N t t ≤ 360000) × (1 ≤ label N t t) × (label N (suc t) (suc t) ≤ 360000) × (1 ≤ label N (suc t) (suc t)) × (N ≤ 600)
-  pivots_small =
-      let high = s.stands.high in
-      let square = mul-le-mul {n₂ = 600} {m₂ = 600} high high in
-      let a = label-range N t t (record { row_low = near.0; row-high = omega (arith, near.1); column-low = near.0; column-high = omega (arith, near.1) }) in
-      let b = label-range N (suc t) (suc t) (record { row_low = omega arith; row-high = near.1; column-low = omega arith; column-high = near.1 }) in
-      (omega (arith, a, square), a.0, omega (arith, b, square), b.0, high)
-
-  pub count-start : {across : Bool} {first second k : ℕ} → k ≡ suc t → suc first ≡ label N t t + cond across (N - t) 0 + 1
-      → suc second ≡ label N (suc t) (suc t) + cond across (N - suc t) 0 → Counting N P t across first second 0 0 k
-  count-start {across} e a b = rw e (record {
-    low = omega arith;
-    high = near.1;
-    first-at = omega (arith, a);
-    second_at = omega (arith, b);
+  pub count-start : {across : Bool} {k : ℕ} → k ≡ suc (suc t) → Counting N P t across 0 0 k
+  count-start {across} e = rw e (record {
     before_is = up_to_start (first_line N P t across) (second_line N P t across) (linked N P t across) t;
     after_is = up_to_start (second_line N P t across) (first_line N P t across) (linked N P t (not across)) t;
   })
 
-  module _ {across : Bool} {first second before after k : ℕ} (c : Counting N P t across first second before after k) where
-    pub count_small : (before ≤ 1200) × (after ≤ 1200) × (first ≤ 361200) × (second ≤ 361200) × (k ≤ 600)
-    count_small =
-        let q = pivots_small in
+  module _ {across : Bool} {before after k : ℕ} (c : Counting N P t across before after k) (past : suc t < k) where
+    pub count_small : k ≤ suc N → (before ≤ 1200) × (after ≤ 1200)
+    count_small high =
         let few = up_to_few (first_line N P t across) (second_line N P t across) (linked N P t across) t k in
         let few-after = up_to_few (second_line N P t across) (first_line N P t across) (linked N P t (not across)) t k in
-        let skip = skip_few in (
-          omega (arith, c.before_is, few, c.high, q),
-          omega (arith, c.after_is, few-after, c.high, q),
-          omega (arith, c.first-at, c.high, q, skip t),
-          omega (arith, c.second_at, c.high, q, skip (suc t)),
-          omega (arith, c.high, q),
-        )
-      where
-        skip_few : (m : ℕ) → cond across (N - m) 0 ≤ N
-        skip_few m = step across
-          where
-            step : (b : Bool) → cond b (N - m) 0 ≤ N
-            step true = omega arith
-            step false = omega arith
+        (omega (arith, c.before_is, few, s.stands.high), omega (arith, c.after_is, few-after, s.stands.high))
 
-    module _ (more : k < N) where
+    module _ (high : k ≤ N) where
       -- the next place of either line
-      first-inside : Inside N (row_of across t (suc k)) (column_of across t (suc k))
-      first-inside = line-inside N across t (suc k) near.0 (omega (arith, near.1)) (omega arith) more
+      first-inside : Inside N (row_of across t k) (column_of across t k)
+      first-inside = line-inside N across t k near.0 (omega (arith, near.1)) (omega arith) high
 
-      first-label : suc (suc first) ≡ label N (row_of across t (suc k)) (column_of across t (suc k))
-      first-label = omega (arith, c.first-at, c.low, line-label N across t (suc k) near.0 (omega (arith, near.1)) (omega (arith, c.low)))
+      second-inside : Inside N (row_of across (suc t) k) (column_of across (suc t) k)
+      second-inside = second_inside s near across k past high
 
-      second_label : suc (suc second) ≡ label N (row_of across (suc t) (suc k)) (column_of across (suc t) (suc k))
-      second_label = omega (arith, c.second_at, c.low, line-label N across (suc t) (suc k) (omega arith) near.1 (omega (arith, c.low)))
+      module _ {first : ℕ} (at : suc first ≡ label N t t + cond across (N - t) 0 + (k - t)) where
+        first-label : suc first ≡ label N (row_of across t k) (column_of across t k)
+        first-label = omega (arith, at, line-label N across t k near.0 (omega (arith, near.1)) (omega arith))
 
-      pub past : suc t < suc k
-      past = omega (arith, c.low)
+        pub first-index : (first < length work) × (first ≤ 360000)
+        first-index =
+            let square = mul-le-mul {n₂ = 600} {m₂ = 600} s.stands.high s.stands.high in
+            let range = label-range N _ _ first-inside in
+            (omega (arith, first-label, range, s.stands.room), omega (arith, first-label, range, square))
 
-      pub first-index : suc first < length work
-      first-index = omega (arith, first-label, label-range N _ _ first-inside, s.stands.room)
+        pub first-held : {a : Bool} → a ≡ ltb 0 (get_or work first 0) → a ≡ first_line N P t across k
+        first-held f = f ∙ line-held s across t k first-inside first-label
 
-      pub second_index : suc second < length work
-      second_index = omega (arith, second_label, label-range N _ _ (second_inside s near across (suc k) past more), s.stands.room)
+      module _ {second : ℕ} (at : suc second ≡ label N (suc t) (suc t) + cond across (N - suc t) 0 + (k - suc t)) where
+        second_label : suc second ≡ label N (row_of across (suc t) k) (column_of across (suc t) k)
+        second_label = omega (arith, at, line-label N across (suc t) k (omega arith) near.1 (omega arith))
 
-      pub first-held : {a : Bool} {index : ℕ} → index ≡ suc first → a ≡ ltb 0 (get_or work index 0) → a ≡ first_line N P t across (suc k)
-      first-held e f = f ∙ ap (λ n. ltb 0 (get_or work n 0)) e ∙ line-held s across t (suc k) first-inside first-label
+        pub second_index : (second < length work) × (second ≤ 360000)
+        second_index =
+            let square = mul-le-mul {n₂ = 600} {m₂ = 600} s.stands.high s.stands.high in
+            let range = label-range N _ _ second-inside in
+            (omega (arith, second_label, range, s.stands.room), omega (arith, second_label, range, square))
 
-      pub second_held : {b : Bool} {index : ℕ} → index ≡ suc second → b ≡ ltb 0 (get_or work index 0)
-          → b ≡ held N P (row_of across (suc t) (suc k)) (column_of across (suc t) (suc k))
-      second_held e f = f ∙ ap (λ n. ltb 0 (get_or work n 0)) e ∙ line-held s across (suc t) (suc k) (second_inside s near across (suc k) past more) second_label
+        pub second_held : {b : Bool} → b ≡ ltb 0 (get_or work second 0) → b ≡ held N P (row_of across (suc t) k) (column_of across (suc t) k)
+        second_held f = f ∙ line-held s across (suc t) k second-inside second_label
 
       -- where a way leads to it through the first line
-      pub second_past : {a b link : Bool} {n : ℕ} → n ≡ suc k → a ≡ first_line N P t across (suc k)
-          → b ≡ held N P (row_of across (suc t) (suc k)) (column_of across (suc t) (suc k)) → link ≡ linked N P t across → ((link && a) && b) ≡ true
-          → Beyond N P t (row_of across (suc t) n) (column_of across (suc t) n)
-      second_past {a} {b} {link} e x y z all = rw e (second_beyond s near across (suc k) past more (sym y ∙ ((and-eq-true_iff (link && a) b).0 all).1))
+      pub second_past : {a b link : Bool} → a ≡ first_line N P t across k
+          → b ≡ held N P (row_of across (suc t) k) (column_of across (suc t) k) → link ≡ linked N P t across → ((link && a) && b) ≡ true
+          → Beyond N P t (row_of across (suc t) k) (column_of across (suc t) k)
+      second_past {a} {b} {link} x y z all = second_beyond s near across k past high (sym y ∙ ((and-eq-true_iff (link && a) b).0 all).1)
 
-      pub count_more : {a b link back : Bool} {first' second' before' after' n : ℕ} → n ≡ suc k → first' ≡ suc first → second' ≡ suc second
-          → a ≡ first_line N P t across (suc k) → b ≡ second_line N P t across (suc k)
-          → link ≡ linked N P t across → back ≡ linked N P t (not across) → before' ≡ before + pair a b link → after' ≡ after + pair b a back
-          → Counting N P t across first' second' before' after' n
-      count_more d e f a b x y g h =
-          rw (d, e, f)
-          (record {
-            low = omega (arith, c.low);
-            high = more;
-            first-at = omega (arith, c.first-at, c.low);
-            second_at = omega (arith, c.second_at, c.low);
-            before_is =
-                rw (a, b, x) at g ∙ ap (λ n. n + pair (first_line N P t across (suc k)) (second_line N P t across (suc k)) (linked N P t across)) c.before_is
-                ∙ up_to_more (first_line N P t across) (second_line N P t across) (linked N P t across) t k c.low;
-            after_is =
-                rw (b, a, y) at h
-                ∙ ap (λ n. n + pair (second_line N P t across (suc k)) (first_line N P t across (suc k)) (linked N P t (not across))) c.after_is
-                ∙ up_to_more (second_line N P t across) (first_line N P t across) (linked N P t (not across)) t k c.low;
-          })
+    pub count_more : {a b link back : Bool} {before' after' n : ℕ} → n ≡ suc k
+        → a ≡ first_line N P t across k → b ≡ second_line N P t across k
+        → link ≡ linked N P t across → back ≡ linked N P t (not across) → before' ≡ before + pair a b link → after' ≡ after + pair b a back
+        → Counting N P t across before' after' n
+    count_more d a b x y g h =
+        rw d
+        (record {
+          before_is =
+              rw (a, b, x) at g ∙ ap (λ n. n + pair (first_line N P t across k) (second_line N P t across k) (linked N P t across)) c.before_is
+              ∙ up_to_more (first_line N P t across) (second_line N P t across) (linked N P t across) t k past;
+          after_is =
+              rw (b, a, y) at h
+              ∙ ap (λ n. n + pair (second_line N P t across k) (first_line N P t across k) (linked N P t (not across))) c.after_is
+              ∙ up_to_more (second_line N P t across) (first_line N P t across) (linked N P t (not across)) t k past;
+        })
+
+-- once the last place is counted
+up_to_all : (first second : ℕ → Bool) (link : Bool) (N t : ℕ) → 1 ≤ t → up_to first second link t (suc N) ≡ pairs N (t - 1) first second link
+up_to_all first second link N t low =
+    let one : suc (t - 1) ≡ t = omega arith in
+    let size : suc N - suc (suc t) ≡ N - suc t = omega arith in
+    rw (one, size)
+
+pub count-all : {N : ℕ} {P : Plan} {t : ℕ} {across : Bool} {before after k : ℕ} → 1 ≤ t → k ≡ suc N → Counting N P t across before after k
+    → Counts N P t across (record { before = before; after = after })
+count-all {N} {P} {t} {across} low e c =
+    let all : Counting N P t across _ _ (suc N) = rw e at c in
+    record {
+      before_is = all.before_is ∙ up_to_all (first_line N P t across) (second_line N P t across) (linked N P t across) N t low;
+      after_is = all.after_is ∙ up_to_all (second_line N P t across) (first_line N P t across) (linked N P t (not across)) N t low;
+    }
 
 -- both counts are small
 pub counts_few : {N : ℕ} {P : Plan} {t : ℕ} {across : Bool} {r : Past} → N ≤ 600 → Counts N P t across r → (r.before ≤ 1200) × (r.after ≤ 1200)

@@ -1,2 +1,3 @@
 -- What the contracts of `exchange` cite.
 pub mod Stood
+pub mod Under

@@ -14,13 +14,10 @@ Within k n = (0 < k) × (k ≤ n)
 within_is : (k n : ℕ) → Within k n → true ≡ within k n
 within_is k n range = sym (range-within k n range.0 range.1)
 
-pub order_true : (N : ℕ) → true ≡ is_order N → Within N 600
-order_true N e = within-range N 600 (sym e)
-
 -- places: the test `is_place`, and the number of a place by its outcome
 
 module _ (N i j : ℕ) where
-  pub is_place_is : {a b c : Bool} → a ≡ is_order N → b ≡ within i N → c ≡ within j N → a && (b && c) ≡ is_place N i j
+  is_place_is : {a b c : Bool} → a ≡ is_order N → b ≡ within i N → c ≡ within j N → a && (b && c) ≡ is_place N i j
   unfolding is_place
   is_place_is order row column = ap₂ ◌&&◌ order (ap₂ ◌&&◌ row column)
 
@@ -41,7 +38,7 @@ module _ (N i j : ℕ) where
 -- labels: the test `is_label`, and the place of a label by its outcome
 
 module _ (N k : ℕ) where
-  pub is_label_is : {a b : Bool} → a ≡ is_order N → b ≡ within k (N * N) → a && b ≡ is_label N k
+  is_label_is : {a b : Bool} → a ≡ is_order N → b ≡ within k (N * N) → a && b ≡ is_label N k
   unfolding is_label
   is_label_is order range = ap₂ ◌&&◌ order range
 

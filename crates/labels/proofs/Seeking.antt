@@ -2,7 +2,7 @@
 use Prim.Native.Nat.{ℕ, suc, ◌+◌, ◌-◌, ◌*◌, ◌≤◌, ◌<◌}
 use native.Mathlib.Nat.{eq-or-lt_of_le}
 use native.Mathlib.Omega.{arith}
-use mathlib.Core.Path.{◌≡◌, refl, sym, ◌∙◌}
+use mathlib.Core.Path.{◌≡◌, sym, ◌∙◌}
 use mathlib.Core.Logic.{⊎_elim}
 use lib.ListN.{length, get_or}
 use Rattle.model.specs.Label.{label}
@@ -13,61 +13,33 @@ use Rattle.model.proofs.Plans.{labels_rise}
 use Rattle.labels.specs.Batches.{Reaches, Holds}
 use Rattle.labels.specs.declared.Batch.{Batch}
 
--- label k is the left-th from batch m on, which has size labels
-pub record Seeking (N k m left size : ℕ) : Type 0 where
-  pub low : 1 ≤ m
-  pub high : m ≤ N
-  pub some : 1 ≤ left
-  pub most : left ≤ k
-  pub begins : suc (k - left) ≡ label N m m
-  pub size_is : size ≡ 2 * (N - m) + 1
-
 pub first-batch : (N k : ℕ) → 1 ≤ N → 1 ≤ k → Reaches N k (record { number = 1; before = 0 })
 first-batch N k order some = record { low = omega arith; high = order; begins = sym (label-first N); past = some }
-
-pub seek_from : {N k : ℕ} {b : Batch} → Reaches N k b → Seeking N k b.number (k - b.before) (2 * (N - b.number) + 1)
-seek_from r = record {
-  low = r.low;
-  high = r.high;
-  some = omega (arith, r.past);
-  most = omega arith;
-  begins = omega (arith, r.begins, r.past);
-  size_is = refl;
-}
 
 -- the next batch begins where one ends
 ended : (N m : ℕ) → 1 ≤ m → m ≤ N → label N (suc m) (suc m) ≡ label N m m + (2 * (N - m) + 1)
 ended N m low high = label-next N m low high ∙ label_in_row N m (suc N) low high (omega arith) ∙ omega arith
 
-module _ {N k m left size : ℕ} (s : Seeking N k m left size) where
-  -- past batch m there is another, if the label lies there
-  pub more : k ≤ N * N → size < left → m < N
-  more high past = ⊎_elim (λ e. absurd (none e)) (λ l. l) (eq-or-lt_of_le s.high)
+module _ {N k : ℕ} {b : Batch} (r : Reaches N k b) (high : k ≤ N * N) (past : b.before + (2 * (N - b.number) + 1) < k) where
+  -- past a batch there is another, if the label lies there
+  more : b.number < N
+  more = ⊎_elim (λ e. absurd (none e)) (λ l. l) (eq-or-lt_of_le r.high)
     where
-      none : m ≡ N → ⊥
+      none : b.number ≡ N → ⊥
       none e =
-          let last = rw e at (ended N m s.low s.high) in
-          let begins = rw e at s.begins in
-          omega (arith, last, begins, label-end N, s.size_is, s.most)
+          let last = rw e at (ended N b.number r.low r.high) in
+          let begins = rw e at r.begins in
+          omega (arith, last, begins, label-end N)
 
-  pub next-batch : k ≤ N * N → size < left → Seeking N k (m + 1) (left - size) (size - 2)
-  next-batch high past =
-      let inner = more high past in
-      let one : m + 1 ≡ suc m = omega arith in
+  pub next-batch : Reaches N k (record { number = b.number + 1; before = b.before + (2 * (N - b.number) + 1) })
+  next-batch =
+      let one : b.number + 1 ≡ suc b.number = omega arith in
       rw one (record {
         low = omega arith;
-        high = inner;
-        some = omega arith;
-        most = omega (arith, s.most);
-        begins = omega (arith, s.begins, s.size_is, s.most, ended N m s.low s.high);
-        size_is = omega (arith, s.size_is);
+        high = more;
+        begins = omega (arith, r.begins, ended N b.number r.low r.high);
+        past = past;
       })
-
-  pub held_there : left ≤ size → Holds N k (record { number = m; before = k - left })
-  held_there here = record {
-    reaches = record { low = s.low; high = s.high; begins = s.begins; past = omega (arith, s.some, s.most) };
-    ends = omega (arith, s.size_is, s.most);
-  }
 
 -- the place found in column m, and in row m
 module _ {N k : ℕ} {b : Batch} (h : Holds N k b) where

@@ -1,28 +1,37 @@
 // Labels of places and places of labels: document 01, "Places and labels".
 #![tactic(auto)]
 
-ghost use Rattle.std.specs.Prelude.{◌≡◌, cond, ◌*◌, ◌≤◌, ◌<◌};
-ghost use Rattle.model.specs.Label.{is_label, sought, at};
+ghost use Rattle.std.specs.Prelude.{◌≡◌, cond, ◌+◌, ◌-◌, ◌*◌, ◌≤◌, ◌<◌};
+ghost use Rattle.model.specs.Label.{is_label, sought};
 ghost use Rattle.model.specs.Label;
 ghost use Rattle.model.specs.Boundary.{label_number};
 ghost use Rattle.model.proofs.Labels.{Inside};
-ghost use Rattle.labels.specs.Located.{sought_of, placed};
+ghost use Rattle.labels.specs.Located.{place_of, sought_of, placed};
 ghost use Rattle.labels.specs.Batches.{Reaches, Holds};
 
 use numbers::within;
-
-// The place of a label, its row and its column, or that there is none.
-#[derive(Clone, Copy)]
-pub enum Located {
-    At(u32, u32),
-    Outside,
-}
 
 // A batch of the table, column m from the diagonal down and then row m right of it: its number m, and the labels before it.
 #[derive(Clone, Copy)]
 pub struct Batch {
     pub number: u32,
     pub before: u32,
+}
+
+impl Batch {
+    // The first: column 1 and row 1.
+    pub const FIRST: Batch = Batch {
+        number: 1,
+        before: 0,
+    };
+
+    // The last label of the batch, in a table of order n.
+    fn end(self, n: u32) -> u32
+        requires { (self.number ≤ n) × (n ≤ 600) × (self.before ≤ 360000) }
+        ensures { result ≡ self.before + (2 * (n - self.number) + 1) }
+    {
+        self.before + 2 * (n - self.number) + 1
+    }
 }
 
 // A place of the table, by row and column.
@@ -33,6 +42,8 @@ pub struct Entry {
 }
 
 // The label of (i, j) in a table of order n; 0 if any of the three is out of range.
+// Kept: 0 for none, which the C interface answers, and the definition `label_number`.
+#[tactic(auto, unfolding(model::specs::Boundary::label_number, model::specs::Label::is_place))]
 pub fn label(n: u32, i: u32, j: u32) -> u32
     ensures { result ≡ label_number n i j }
 {
@@ -55,47 +66,39 @@ fn label_within(n: u32, i: u32, j: u32) -> u32
     }
 }
 
-// The place of label k in a table of order n.
-pub fn place(n: u32, k: u32) -> Located
+// The place of label k in a table of order n; none if it is out of range.
+#[tactic(auto, unfolding(model::specs::Label::sought, model::specs::Label::is_label))]
+pub fn place(n: u32, k: u32) -> Option<Entry>
     ensures { sought_of result ≡ sought n k }
 {
     if within(n, 600) && within(k, n * n) {
-        place_within(n, k)
+        Some(place_within(n, k))
     } else {
-        Located::Outside
+        None
     }
 }
 
 // The place of a label in range.
-fn place_within(n: u32, k: u32) -> Located
+fn place_within(n: u32, k: u32) -> Entry
     requires { ((0 < n) × (n ≤ 600)) × ((0 < k) × (k ≤ n * n)) }
-    ensures { sought_of result ≡ at (Label.place n k) }
+    ensures { place_of result ≡ Label.place n k }
 {
-    let first = Batch {
-        number: 1,
-        before: 0,
-    };
-    let place = place_in(n, k, batch_of(n, k, first));
-    Located::At(place.row, place.column)
+    place_in(n, k, batch_of(n, k, Batch::FIRST))
 }
 
 // The batch that has a label, sought from one that isn't past it.
-pub fn batch_of(n: u32, k: u32, from: Batch) -> Batch
-    requires { ((n ≤ 600) × (k ≤ n * n)) × Reaches n k from }
+pub fn batch_of(n: u32, k: u32, mut batch: Batch) -> Batch
+    requires { ((n ≤ 600) × (k ≤ n * n)) × Reaches n k batch }
     ensures { Holds n k result }
 {
-    let mut number = from.number;
-    let mut left = k - from.before;
-    let mut size = 2 * (n - number) + 1;
-    while size < left {
-        left -= size;
-        size -= 2;
-        number += 1;
+    // By hand: the next batch begins where one ends, so a `for` over the numbers would have to count the labels before it beside.
+    while batch.end(n) < k {
+        batch = Batch {
+            number: batch.number + 1,
+            before: batch.end(n),
+        };
     }
-    Batch {
-        number,
-        before: k - left,
-    }
+    batch
 }
 
 // The place of a label of a batch, in its column or in its row.
@@ -120,17 +123,15 @@ pub fn place_in(n: u32, k: u32, batch: Batch) -> Entry
 }
 
 // The label of a label's place: the label again, 0 where it is out of range.
+// Kept: 0 for none, as its clause has it.
 pub fn label_again(n: u32, k: u32) -> u32
     ensures { result ≡ cond (is_label n k) k 0 }
 {
-    match place(n, k) {
-        Located::At(i, j) => label(n, i, j),
-        Located::Outside => 0,
-    }
+    place(n, k).map_or(0, |at| label(n, at.row, at.column))
 }
 
-// The place of a place's label: the place again, outside where it is out of range.
-pub fn place_again(n: u32, i: u32, j: u32) -> Located
+// The place of a place's label: the place again, none where it is out of range.
+pub fn place_again(n: u32, i: u32, j: u32) -> Option<Entry>
     ensures { sought_of result ≡ placed n i j }
 {
     place(n, label(n, i, j))

@@ -3,67 +3,43 @@
 
 ghost use Rattle.std.specs.Prelude.{◌+◌, ◌*◌, ◌≤◌, ◌<◌, length};
 
-use compiler::Compilation;
+use compiler::Method;
 use numbers::wide;
+use refusal::Refusal;
 use std::io::Read;
-use text::{Reading, Scanned};
-
-// A reading, and whether more of the input may change it.
-#[derive(Clone, Copy)]
-struct Fed {
-    reading: Reading,
-    more: bool,
-}
+use text::Reading;
 
 fn main(rt: HostRuntime) {
     let mut numbers = [0u32; 4097];
     let reading = read_all(&mut rt.stdin(), &mut numbers);
     match reading.ended(&mut numbers) {
-        Scanned::BadAt(at) => print_refusal(&rt, 20, at),
-        Scanned::Numbers { order, labels } => {
-            let end = labels + 1;
-            list(&rt, order, &numbers[1..end]);
+        Ok(listed) => list(&rt, listed.order, &numbers[1..=listed.labels]),
+        Err(refusal) => print_refusal(&rt, refusal),
+    }
+}
+
+// Reads the input piece by piece, to its first fault, to its end, or to a read that fails. A proved loop has to end, so its turns are
+// counted, up to a number that no run reaches.
+fn read_all(input: &mut impl Read, numbers: &mut [u32]) -> Reading {
+    let mut reading = text::blank();
+    let mut piece = [0u8; 4096];
+    for _ in 0..u64::MAX {
+        let n = input.read(&mut piece).unwrap_or(0);
+        reading = text::feed(reading, &piece[..n], numbers);
+        if n == 0 || reading.is_faulty() {
+            break;
         }
     }
-}
-
-// Reads the input to its end, or to its first fault. A proved loop has to end, so it counts its turns down, from a number that no run uses up.
-fn read_all(input: &mut impl Read, numbers: &mut [u32]) -> Reading {
-    let mut fed = Fed {
-        reading: text::blank(),
-        more: true,
-    };
-    let mut turns = u64::MAX;
-    while turns > 0 && fed.more {
-        let reading = fed.reading;
-        fed = read_piece(input, reading, numbers);
-        turns -= 1;
-    }
-    fed.reading
-}
-
-// Reads a piece of the input. Nothing follows where nothing was read, at the end of the input or where a read fails, and after a fault.
-fn read_piece(input: &mut impl Read, reading: Reading, numbers: &mut [u32]) -> Fed {
-    let mut piece = [0u8; 4096];
-    let n = input.read(&mut piece).unwrap_or(0);
-    let after = text::feed(reading, &piece[..n], numbers);
-    Fed {
-        reading: after,
-        more: 0 < n && !after.is_faulty(),
-    }
+    reading
 }
 
 // Compiles a plan, and prints its program or the refusal.
 fn list(rt: &impl Print, order: u32, plan: &[u32]) {
     let mut work = [0u32; 16384];
     let mut words = [0u32; 16384];
-    match compiler::compile(order, plan, &mut work, &mut words) {
-        Compilation::Refused { number, detail } => print_refusal(rt, number, detail),
-        Compilation::Written {
-            slots: _,
-            products: _,
-            records,
-        } => print_program(rt, &words, records),
+    match compiler::compile(order, plan, &mut work, &mut words, Method::Plain) {
+        Ok(written) => print_program(rt, &words, written.records),
+        Err(refusal) => print_refusal(rt, refusal),
     }
 }
 
@@ -71,10 +47,8 @@ fn list(rt: &impl Print, order: u32, plan: &[u32]) {
 fn print_program(rt: &impl Print, words: &[u32], records: u32)
     requires { 4 * records ≤ length words.now }
 {
-    let mut k = 0;
-    while k < records {
+    for k in 0..records {
         print_record(rt, k, words);
-        k += 1;
     }
 }
 
@@ -94,8 +68,8 @@ fn print_record(rt: &impl Print, k: u32, words: &[u32])
     let _ = rt.write_all(&line[..size]);
 }
 
-fn print_refusal(rt: &impl Print, number: u32, detail: u64) {
+fn print_refusal(rt: &impl Print, refusal: Refusal) {
     let mut line = [0u8; 64];
-    let size = output::refusal_line(number, detail, &mut line);
+    let size = output::refusal_line(refusal.number(), refusal.detail(), &mut line);
     let _ = rt.write_all(&line[..size]);
 }

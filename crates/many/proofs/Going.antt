@@ -4,12 +4,13 @@ use native.Mathlib.Omega.{arith}
 use mathlib.Core.Path.{◌≡◌, refl, sym, ap, ap₂, ◌∙◌}
 use mathlib.Core.Bool.{Bool, true, false, ◌||◌, false≢true}
 use mathlib.Core.List.{List}
-use lib.Dec.{ltb, eqb}
+use lib.Dec.{eqb}
 use lib.ListN.{get_or, set}
 use lib.Seq.{get_or-set_other}
 use lib.Ieee.{Float}
-use borrow.Author.Tests.{ltb-true, ltb-false, eq-eqb, eqb-true}
+use borrow.Author.Tests.{eqb-true}
 use Rattle.sides.specs.Cells.{cell_of, any_going}
+use Rattle.sides.proofs.Cells.{any_found}
 
 -- one of them goes on
 pub some_goes : (count : ℕ) (out : List ℕ) → any_going count out ≡ true → (r : ℕ) × (r < count) × (get_or out (4 * r + 1) 0 ≡ 0)
@@ -23,22 +24,9 @@ some_goes (suc n) out e = go (any_going n out) (eqb (get_or out (4 * n + 1) 0) 0
     go false true e h t rest = (n, omega arith, eqb-true (get_or out (4 * n + 1) 0) 0 h)
     go false false e h t rest = absurd (false≢true t)
 
--- where this one does
-pub goes_any : (count : ℕ) (out : List ℕ) (r : ℕ) → r < count → get_or out (4 * r + 1) 0 ≡ 0 → any_going count out ≡ true
-unfolding any_going
-goes_any zero out r h is = absurd (omega arith)
-goes_any (suc n) out r h is = go (ltb r n) (any_going n out) refl (goes_any n out r)
-  where
-    go : (below found : Bool) → ltb r n ≡ below → (r < n → get_or out (4 * r + 1) 0 ≡ 0 → found ≡ true) → found || eqb (get_or out (4 * n + 1) 0) 0 ≡ true
-    go below true e rest = refl
-    go true false e rest = absurd (false≢true (rest (ltb-true r n e) is))
-    go false false e rest =
-        let last : n ≡ r = omega (arith, ltb-false r n e) in
-        eq-eqb (get_or out (4 * n + 1) 0) 0 (ap (λ i. get_or out (4 * i + 1) 0) last ∙ is)
-
--- else none does
+-- or none does
 pub none_goes : (count : ℕ) (out : List ℕ) → any_going count out ≡ false → (r : ℕ) → r < count → get_or out (4 * r + 1) 0 ≡ 0 → ⊥
-none_goes count out e r h is = false≢true (sym e ∙ goes_any count out r h is)
+none_goes count out e r h is = false≢true (sym e ∙ any_found count r out h is)
 
 -- the first number set
 module _ (out : List ℕ) (v : ℕ) where

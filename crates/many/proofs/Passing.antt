@@ -30,7 +30,8 @@ use Rattle.sides.specs.Cells.{Cell, cell_of, any_going, Room}
 use Rattle.sides.specs.Standing.{own, Stands, StandsAt, Steps, Kept, SidesReady}
 use Rattle.many.specs.Passes as Passes
 use Rattle.many.specs.Passes.{FitMany, side_along, endings}
-use Rattle.many.proofs.Going.{some_goes, goes_any, none_goes, going-first, cell_first}
+use Rattle.sides.proofs.Cells.{any_found}
+use Rattle.many.proofs.Going.{some_goes, none_goes, going-first, cell_first}
 use Rattle.many.proofs.Own.{goes_through, stands-halted, own-sound, allowed-own, works_on}
 
 -- right side r's own run, with state w after record k
@@ -131,7 +132,7 @@ module _ {W : List ℕ} {count : ℕ} {A B : List Float} {limit : Float} {out : 
     last = 0;
     done = subst (λ z. Done W count A B limit out c y x running out z [] 0) (sym fresh) starts_done;
     counts = refl;
-    way = on (goes_any count out 0 (omega (arith, few-sides fit)) (all_zero out zeros 1 (omega arith))) (sym first);
+    way = on (any_found count 0 out (omega (arith, few-sides fit)) (all_zero out zeros 1 (omega arith))) (sym first);
   }
 
 -- ---- a turn

@@ -23,7 +23,8 @@ use Rattle.state.specs.declared.State.{State}
 use Rattle.sides.specs.Cells as Cells
 use Rattle.sides.specs.Cells.{cell_of, if_going, any_going}
 use Rattle.many.specs.Passes.{side_along, endings, Passed, told, ClearedEnded}
-use Rattle.many.proofs.Going.{some_goes, goes_any, none_goes}
+use Rattle.sides.proofs.Cells.{any_found}
+use Rattle.many.proofs.Going.{some_goes, none_goes}
 use Rattle.many.proofs.Side.{numbers_of, HoldsC, told-answer, tells, going-solved, ended_unsolved, holds-c, holds-y, holds-x, shared_c-held}
 
 -- ---- lists of numbers
@@ -69,7 +70,7 @@ module _ {W : List ℕ} {count : ℕ} {A B : List Float} {limit : Float} {z : St
 
   -- a side that goes on has closed all
   all_closed : (r : ℕ) → r < count → get_or out (4 * r + 1) 0 ≡ 0 → (z.c ≡ length c) × (z.y ≡ N) × (z.x ≡ N)
-  all_closed r h goes = p.whole (goes_any count out r h goes)
+  all_closed r h goes = p.whole (any_found count r out h goes)
 
   -- the numbers
   numbers_of_is : (r : ℕ) → r < count → numbers_of (cell_of [] out' r) ≡ side_numbers (reply (followed (side_of r)))

@@ -6,14 +6,14 @@ ghost use Rattle.model.specs.Formula.{C, Y, X};
 ghost use Rattle.model.specs.Check.{word};
 ghost use Rattle.model.specs.Many.{sides, ran_many, verdict, replies, leaves_many};
 ghost use Rattle.model.specs.Boundary.{many_numbers};
-ghost use Rattle.checker.specs.Checked.{verdict_of};
+ghost use Rattle.refusal.specs.Named.{verdict_of};
 ghost use Rattle.state.specs.States.{most_made};
 ghost use Rattle.sides.specs.Cells.{if_going, One, Each};
 ghost use Rattle.many.specs.Passes.{lengths_fit, FitMany, endings, Passed, told, FewTold, ClearedEnded};
 
-use checker::Checked;
 use numbers::{wide, within};
-use runner::{check_values, clear};
+use refusal::Refusal;
+use runner::check_values;
 use sides::each::any_going;
 use state::State;
 
@@ -31,7 +31,7 @@ pub fn run_many(
     y: &mut [f64],
     x: &mut [f64],
     out: &mut [u64; 257],
-) -> Checked
+) -> Result<(), Refusal>
     ensures { let end = ran_many words.now count a.now b.now limit
         (length c.old) (length y.old) (length x.old) in
         ((verdict_of result ≡ verdict end) × (out.new ≡ many_numbers (replies words.now end)))
@@ -40,11 +40,9 @@ pub fn run_many(
         × (x.new ≡ leaves_many end (word words.now 0) X x.old))) }
 {
     *out = [0; 257];
-    let checked = check_call(words, count, a, b, limit, c.len(), y.len(), x.len());
-    if let Checked::Fine = checked {
-        run_sides(words, wide(count), a, b, limit, c, y, x, out);
-    }
-    checked
+    check_call(words, count, a, b, limit, c.len(), y.len(), x.len())?;
+    run_sides(words, wide(count), a, b, limit, c, y, x, out);
+    Ok(())
 }
 
 // 7 to 13 of a Crout program, then 25, 14, 15 and 21.
@@ -57,29 +55,21 @@ fn check_call(
     c: usize,
     y: usize,
     x: usize,
-) -> Checked
+) -> Result<(), Refusal>
     ensures { verdict_of result ≡ verdict (ran_many words.now count a.now b.now limit c y x) }
 {
-    let checked = checker::check_crout(words);
-    if let Checked::Refused { number, detail } = checked {
-        return Checked::Refused { number, detail };
-    }
+    checker::check_crout(words)?;
     if !within(count, 64) {
-        return Checked::Refused {
-            number: 25,
-            detail: 0,
-        };
+        return Err(Refusal::Sides);
     }
     if !lengths_fit(words, wide(count), a.len(), b.len(), c, y, x) {
-        return Checked::Refused {
-            number: 14,
-            detail: 0,
-        };
+        return Err(Refusal::Lengths);
     }
     check_values(a, b, limit)
 }
 
 // 14: the lengths of A, B, C, Y and X are n, N, s, N and N, those of B, Y and X for each right side.
+// Kept: one with runner's is no plainer: there Y is empty with s = 0, which is refused here, and here B, Y and X are times count.
 fn lengths_fit(
     words: &[u32],
     count: usize,
@@ -123,11 +113,12 @@ fn run_sides(
     clear_ended(out, count, order, y);
     clear_ended(out, count, order, x);
     if !any_going(out, count) {
-        clear(c);
+        c.fill(0.0);
     }
 }
 
 // Along the chain once, with all right sides at each record, until none goes on; the first number out is how many records were read.
+// Kept: slices one by one: a struct that holds a &mut would need a clause in each contract that it is still the same, no plainer.
 fn pass(
     words: &[u32],
     count: usize,
@@ -149,6 +140,7 @@ fn pass(
     let mut z = state::fresh();
     let mut records = 0;
     let mut next = wide(words[3]);
+    // By hand: each record names the next one, so that no range tells the turns beforehand.
     while next != 0 {
         let at = 4 * next;
         z = sides::step(
@@ -169,17 +161,17 @@ fn pass(
             out,
         );
         records += 1;
-        next = if any_going(out, count) {
-            wide(words[at + 3])
-        } else {
-            0
-        };
+        if !any_going(out, count) {
+            break;
+        }
+        next = wide(words[at + 3]);
     }
     out[0] = records;
     z
 }
 
 // Each side that goes on after the pass is solved, and tells its counts.
+// By hand: r names the side's four numbers in out, at 4 r + 1.
 fn tell_each(products: u64, quotients: u64, vanished: u64, count: usize, out: &mut [u64])
     requires count_bound { (count ≤ 64) × (length out.old ≡ 257) }
     requires few_told { FewTold count vanished out.old }
@@ -209,10 +201,11 @@ fn clear_ended(out: &[u64], count: usize, order: usize, values: &mut [f64])
     requires values_len { length values.old ≡ count * order }
     ensures { ClearedEnded count order out.now values.old values.new }
 {
+    // By hand: the parts by their index; after a loop over `chunks_exact_mut` a proof knows none of the values (tried)
     for r in 0..count {
         if out[4 * r + 1] != 0 {
             let first = r * order;
-            clear(&mut values[first..first + order]);
+            values[first..first + order].fill(0.0);
         }
     }
 }

@@ -1,8 +1,10 @@
 -- The answer of a call for a better numbering, as the model's. Definitions only.
+use Rattle.std.specs.Prelude.{Result, Ok, Err}
 use Rattle.model.specs.Numbering.{Renumbering, numbered, refused}
-use Rattle.ordering.specs.declared.Ordered.{Ordered}
-use Rattle.ordering.specs.declared.Ordered.TheVariants.{Numbered, Refused}
+use Rattle.refusal.specs.Named.{number_of, detail_of}
+use Rattle.refusal.specs.declared.Refusal.{Refusal}
+use Rattle.ordering.specs.declared.Renumbered.{Renumbered}
 
-abbrev pub ordered_of : Ordered → Renumbering
-ordered_of (Numbered slots trials distance) = numbered slots trials distance
-ordered_of (Refused number detail) = refused number detail
+abbrev pub ordered_of : Result Renumbered Refusal → Renumbering
+ordered_of (Ok r) = numbered r.slots r.trials r.distance
+ordered_of (Err r) = refused (number_of r) (detail_of r)

@@ -12,78 +12,46 @@ ghost use Rattle.exchange.specs.Stood.{Neighbours};
 ghost use Rattle.ordering.specs.Ordered.{ordered_of};
 ghost use Rattle.ordering.specs.Numbered.{Numbered, Inverse, Ranged, Moved, MarksAnew};
 
+use exchange::Trial;
 use labels::Batch;
 use numbers::wide;
-use plans::Judged;
-use slots::Filled;
+use refusal::Refusal;
+use slots::{Filled, Firsts};
 
-// The slots of the numbering that is returned, the trials made and the distance; or a refusal and its detail.
+// A numbering that was found: its slots, the trials made, and its distance, which is its slots less the plan's labels.
 #[derive(Clone, Copy)]
-pub enum Ordered {
-    Numbered {
-        slots: u32,
-        trials: u32,
-        distance: u32,
-    },
-    Refused {
-        number: u32,
-        detail: u64,
-    },
+pub struct Renumbered {
+    pub slots: u32,
+    pub trials: u32,
+    pub distance: u32,
 }
 
 // The numbering that the trials keep: 1 to 5 of the plan, then 29 if the lent numbering has not n entries. The work numbers are then the slots of the
 // returned numbering, after 29 those of the given one.
-pub fn order(n: u32, plan: &[u32], trials: u32, work: &mut [u32], numbering: &mut [u32]) -> Ordered
+pub fn order(
+    n: u32,
+    plan: &[u32],
+    trials: u32,
+    work: &mut [u32],
+    numbering: &mut [u32],
+) -> Result<Renumbered, Refusal>
     ensures answer { ordered_of result ≡ renumbers n plan.now trials (length work.old) (length numbering.old) }
     ensures work { work.new ≡ renumbered_work n plan.now trials work.old (length numbering.old) }
     ensures numbering { numbering.new ≡ numbering_after n plan.now trials (length work.old) numbering.old }
 {
-    match plans::check(n, plan, work.len(), 1) {
-        Judged::Bad { number, detail } => Ordered::Refused { number, detail },
-        Judged::Good => order_good(n, plan, trials, work, numbering),
-    }
-}
-
-// The same for a plan that 1 to 4 let through.
-fn order_good(n: u32, plan: &[u32], trials: u32, work: &mut [u32], numbering: &mut [u32]) -> Ordered
-    requires { orderly (n * n) n plan.now (length work.old) ≡ good }
-    ensures result_value { ordered_of result ≡ renumbers n plan.now trials (length work.old) (length numbering.old) }
-    ensures work_after { work.new ≡ renumbered_work n plan.now trials work.old (length numbering.old) }
-    ensures numbering_after { numbering.new ≡ numbering_after n plan.now trials (length work.old) numbering.old }
-{
-    let mut rows = [601u32; 601];
-    let mut columns = [601u32; 601];
-    let filled = plans::slot(n, plan, work, &mut rows, &mut columns, 1);
-    let missing = filled.missing;
-    if missing != 0 {
-        return Ordered::Refused {
-            number: 5,
-            detail: missing as u64,
-        };
-    }
+    let mut firsts = Firsts::new();
+    let filled = plans::slots(n, plan, work, &mut firsts, 1)?;
     if numbering.len() != wide(n) {
-        return Ordered::Refused {
-            number: 29,
-            detail: 0,
-        };
+        return Err(Refusal::Numbering);
     }
     number_as_given(numbering);
     let made = trials_made(n, trials);
-    let slots = make_trials(
-        n,
-        plan,
-        made,
-        work,
-        &mut rows,
-        &mut columns,
-        numbering,
-        filled.slots,
-    );
-    Ordered::Numbered {
+    let slots = make_trials(n, plan, made, work, &mut firsts, numbering, filled.slots);
+    Ok(Renumbered {
         slots,
         trials: made,
         distance: slots - plan.len() as u32,
-    }
+    })
 }
 
 // Order 1 has no neighbours to exchange.
@@ -98,51 +66,41 @@ fn number_as_given(numbering: &mut [u32])
     requires { length numbering.old ≤ 600 }
     ensures { numbering.new ≡ given_numbering (length numbering.old) }
 {
-    let mut k = 0;
-    while k < numbering.len() {
-        numbering[k] = k as u32 + 1;
-        k += 1;
+    for (k, room) in numbering.iter_mut().enumerate() {
+        *room = k as u32 + 1;
     }
 }
 
 // So many trials from the given numbering, whose plan has these slots; the answer is the slots of the one that they keep.
+// Kept: slices and tables as parameters: a struct that holds a `&mut` needs a clause for each in each contract (it is still the same): no plainer
 fn make_trials(
     n: u32,
     plan: &[u32],
     trials: u32,
     work: &mut [u32],
-    rows: &mut [u32; 601],
-    columns: &mut [u32; 601],
+    firsts: &mut Firsts,
     numbering: &mut [u32],
-    slots: u32,
+    mut slots: u32,
 ) -> u32
-    requires numbering_value { (numbering.old ≡ given_numbering n) × Numbered n plan.now numbering.old work.old rows.old columns.old slots }
+    requires numbering_value { (numbering.old ≡ given_numbering n) × Numbered n plan.now numbering.old work.old firsts.old.rows firsts.old.columns slots }
     requires lt_n { 0 < trials → 1 < n }
     ensures numbering_after { numbering.new ≡ after_trials n plan.now trials }
-    ensures numbered { Numbered n plan.now numbering.new work.new rows.new columns.new result }
+    ensures numbered { Numbered n plan.now numbering.new work.new firsts.new.rows firsts.new.columns result }
     ensures work_unchanged { drop (n * n) work.new ≡ drop (n * n) work.old }
 {
-    let mut slots = slots;
     let mut idle = 0;
-    let mut k = 0;
-    // p(t) and p(t + 1) are exchanged where that leaves fewer slots, t = 1, .., n - 1 and round again. The last trials, idle of them, kept nothing; once
-    // that is a whole round no later one keeps anything.
-    while k < trials && idle < n - 1 {
+    // p(t) and p(t + 1) are exchanged where that leaves fewer slots, t = 1, .., n - 1 and round again. The last trials, idle of them, kept nothing;
+    // once that is a whole round no later one keeps anything.
+    for k in 0..trials {
+        if idle == n - 1 {
+            break;
+        }
         let t = k % (n - 1) + 1;
-        let after = try_exchange(n, plan, work, rows, columns, numbering, t, slots);
-        idle = idle_after(idle, slots, after);
+        let after = try_exchange(n, plan, work, firsts, numbering, t, slots);
+        idle = if after < slots { 0 } else { idle + 1 };
         slots = after;
-        k += 1;
     }
     slots
-}
-
-// The trials in a row that kept nothing, once one more has led from so many slots to so many.
-fn idle_after(idle: u32, before: u32, after: u32) -> u32
-    requires { idle < 600 }
-    ensures { result ≡ cond (ltb after before) 0 (suc idle) }
-{
-    if after < before { 0 } else { idle + 1 }
 }
 
 // One trial: the rooms at t and t + 1 are kept exchanged if the plan is still accepted and has fewer slots.
@@ -150,35 +108,30 @@ fn try_exchange(
     n: u32,
     plan: &[u32],
     work: &mut [u32],
-    rows: &mut [u32; 601],
-    columns: &mut [u32; 601],
+    firsts: &mut Firsts,
     numbering: &mut [u32],
     t: u32,
     slots: u32,
 ) -> u32
-    requires numbered { Numbered n plan.now numbering.old work.old rows.old columns.old slots }
+    requires numbered { Numbered n plan.now numbering.old work.old firsts.old.rows firsts.old.columns slots }
     requires neighbours { Neighbours n t }
     ensures numbering_after { numbering.new ≡ tried n plan.now t numbering.old }
-    ensures numbered_2 { Numbered n plan.now numbering.new work.new rows.new columns.new result }
+    ensures numbered_2 { Numbered n plan.now numbering.new work.new firsts.new.rows firsts.new.columns result }
     ensures work_unchanged { drop (n * n) work.new ≡ drop (n * n) work.old }
 {
-    if !exchange::improves(n, plan, numbering, work, rows, columns, t) {
+    let trial = Trial {
+        n,
+        plan,
+        numbering,
+        work,
+        firsts,
+        t,
+    };
+    if !trial.improves() {
         return slots;
     }
-    exchange_at(numbering, t);
-    let filled = fill_anew(n, plan, numbering, work, rows, columns);
-    filled.slots
-}
-
-// The rooms at t and t + 1 exchanged.
-fn exchange_at(numbering: &mut [u32], t: u32)
-    requires { (1 ≤ t) × (t < length numbering.old) × (t < 600) }
-    ensures { numbering.new ≡ exchanged numbering.old t }
-{
-    let at = wide(t);
-    let given = numbering[at - 1];
-    numbering[at - 1] = numbering[at];
-    numbering[at] = given;
+    numbering.swap(wide(t) - 1, wide(t));
+    fill_anew(n, plan, numbering, work, firsts).slots
 }
 
 // The slots of the plan under a numbering, in the work numbers.
@@ -187,18 +140,16 @@ fn fill_anew(
     plan: &[u32],
     numbering: &[u32],
     work: &mut [u32],
-    rows: &mut [u32; 601],
-    columns: &mut [u32; 601],
+    firsts: &mut Firsts,
 ) -> Filled
     requires n_value { (is_order n ≡ true) × (judged n 0 1 plan.now ≡ good) }
     requires numbering { IsNumbering n numbering.now × (n * n ≤ length work.old) }
     ensures { FillsPlan n (renumbered n plan.now numbering.now) work.old
-        work.new rows.new columns.new result }
+        work.new firsts.new.rows firsts.new.columns result }
 {
     mark(n, plan, numbering, work);
-    *rows = [601; 601];
-    *columns = [601; 601];
-    slots::fill(n, work, rows, columns)
+    firsts.clear();
+    slots::fill(n, work, firsts)
 }
 
 // Marks the plan under a numbering: the work number of (i, j) becomes 1 where (p(i), p(j)) is in the plan, else 0.
@@ -210,17 +161,11 @@ fn mark(n: u32, plan: &[u32], numbering: &[u32], work: &mut [u32])
     let mut positions = [0u32; 601];
     invert(numbering, &mut positions);
     slots::clear(work, wide(n * n));
-    let mut batch = Batch {
-        number: 1,
-        before: 0,
-    };
-    let mut k = 0;
-    while k < plan.len() {
-        let x = plan[k];
-        batch = labels::batch_of(n, x, batch);
-        let index = moved(n, x, batch, &positions);
+    let mut batch = Batch::FIRST;
+    for &label in plan {
+        batch = labels::batch_of(n, label, batch);
+        let index = moved(n, label, batch, &positions);
         work[index] = 1;
-        k += 1;
     }
 }
 
@@ -229,12 +174,8 @@ fn invert(numbering: &[u32], positions: &mut [u32])
     requires { IsNumbering (length numbering.now) numbering.now × (length numbering.now ≤ 600) × (length positions.old ≡ 601) }
     ensures { Inverse numbering.now (length numbering.now) positions.new }
 {
-    let mut k = 0;
-    while k < numbering.len() {
-        let given = numbering[k];
-        let position = k as u32 + 1;
-        positions[wide(given)] = position;
-        k += 1;
+    for (k, &room) in numbering.iter().enumerate() {
+        positions[wide(room)] = k as u32 + 1;
     }
 }
 

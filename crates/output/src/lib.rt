@@ -12,12 +12,11 @@ pub fn record_line(index: u32, a: u32, b: u32, c: u32, d: u32, out: &mut [u8; 64
     ensures out_after { out.new ≡ record_line index a b c d ++ drop result out.old }
     ensures counts { Counts result out.new }
 {
-    let line: &mut [u8] = out;
-    let first = put_entry(index as u64, b' ', 0, line);
-    let second = put_entry(a as u64, b' ', first, line);
-    let third = put_entry(b as u64, b' ', second, line);
-    let fourth = put_entry(c as u64, b' ', third, line);
-    put_entry(d as u64, b'\n', fourth, line)
+    let first = put_entry(u64::from(index), b' ', 0, out);
+    let second = put_entry(u64::from(a), b' ', first, out);
+    let third = put_entry(u64::from(b), b' ', second, out);
+    let fourth = put_entry(u64::from(c), b' ', third, out);
+    put_entry(u64::from(d), b'\n', fourth, out)
 }
 
 // Puts a refusal's line, its number and its detail, and answers the line's length.
@@ -26,26 +25,9 @@ pub fn refusal_line(number: u32, detail: u64, out: &mut [u8; 64]) -> usize
     ensures out_after { out.new ≡ refusal_line number detail ++ drop result out.old }
     ensures counts { Counts result out.new }
 {
-    let line: &mut [u8] = out;
-    let first = put_refused(line);
-    let second = put_entry(number as u64, b' ', first, line);
-    put_entry(detail, b'\n', second, line)
-}
-
-// Puts the word `refused` and a space, and answers the place after it.
-fn put_refused(out: &mut [u8]) -> usize
-    requires { 8 ≤ length out.old }
-    ensures { Put result out.new 0 out.old refused }
-{
-    out[0] = b'r';
-    out[1] = b'e';
-    out[2] = b'f';
-    out[3] = b'u';
-    out[4] = b's';
-    out[5] = b'e';
-    out[6] = b'd';
-    out[7] = b' ';
-    8
+    out[..8].copy_from_slice(b"refused ");
+    let second = put_entry(u64::from(number), b' ', 8, out);
+    put_entry(detail, b'\n', second, out)
 }
 
 // Puts a number and the byte after it from a place on, and answers the place after them.
@@ -59,15 +41,16 @@ fn put_entry(n: u64, after: u8, at: usize, out: &mut [u8]) -> usize
 }
 
 // Puts a number's decimal digits from a place on, and answers the place after them.
+// By hand: std writes digits through `fmt` alone; a writer of our own for the buffer would be longer than these lines.
 fn put_decimal(n: u64, at: usize, out: &mut [u8]) -> usize
     requires { at + length (decimal n) ≤ length out.old }
     ensures { Put result out.new at out.old (decimal n) }
 {
     if n < 10 {
-        out[at] = 48 + n as u8;
+        out[at] = b'0' + n as u8;
         return at + 1;
     }
     let end = put_decimal(n / 10, at, out);
-    out[end] = 48 + (n % 10) as u8;
+    out[end] = b'0' + (n % 10) as u8;
     end + 1
 }

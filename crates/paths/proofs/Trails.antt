@@ -14,8 +14,7 @@ use Rattle.model.proofs.Lists.{drop-later}
 use Rattle.model.specs.Route.{leg, route, middle}
 use Rattle.model.proofs.Route.{between, leg-some, leg-planned, leg-between, held-path, path-fits}
 use Rattle.plans.specs.Stands.{Leads}
-use Rattle.paths.specs.Trail.{Legs, none, next, ahead, left, On, Onward}
-use Rattle.paths.specs.declared.Trail.{Trail}
+use Rattle.paths.proofs.Trail.{Trail, Legs, none, next, ahead, left, On, Onward}
 
 module _ (N : ℕ) (L : Plan) where
   -- a place of the plan leads straight to the entry, and any other by way of its middle

@@ -1,3 +1,2 @@
 -- What the contracts of `paths` cite.
 pub mod Traced
-pub mod Trail

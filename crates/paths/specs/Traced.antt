@@ -1,9 +1,9 @@
 -- The answer of a call for a path as the model's. Definitions only.
-use Rattle.model.specs.Path as Path
-use Rattle.model.specs.Path.{found, refused}
-use Rattle.paths.specs.declared.Traced.{Traced}
-use Rattle.paths.specs.declared.Traced.TheVariants.{Found, Refused}
+use Rattle.std.specs.Prelude.{ℕ, Result, Ok, Err}
+use Rattle.model.specs.Path.{Traced, found, refused}
+use Rattle.refusal.specs.Named.{number_of, detail_of}
+use Rattle.refusal.specs.declared.Refusal.{Refusal}
 
-abbrev pub traced_of : Traced → Path.Traced
-traced_of (Found entries) = found entries
-traced_of (Refused number detail) = refused number detail
+abbrev pub traced_of : Result ℕ Refusal → Traced
+traced_of (Ok entries) = found entries
+traced_of (Err r) = refused (number_of r) (detail_of r)

@@ -3,3 +3,4 @@ pub mod Wanted
 pub mod Places
 pub mod Middle
 pub mod Standing
+pub mod Refused

@@ -32,8 +32,8 @@ module _ {N : ℕ} {L : Plan} {work in_rows in_columns : List ℕ} (s : Stands N
   pair_inside h low high = let m = sought in let inside = f.leads.inside in (omega arith, omega arith)
 
   -- below what both lines note there is no pair
-  pub start : {h m a b : ℕ} → a ≡ i → b ≡ j → m ≡ max (get_or in_rows a 0) (get_or in_columns b 0) → h ≡ max 1 m → (1 ≤ h) × (h ≤ middle N L i j)
-  start {h} row column lines e =
+  pub start : {h m : ℕ} → m ≡ max (get_or in_rows i 0) (get_or in_columns j 0) → h ≡ max m 1 → (1 ≤ h) × (h ≤ middle N L i j)
+  start lines e =
       let m = sought in
       let both = pair_inside (middle N L i j) m.low (omega arith) in
       let left : get_or in_rows i 0 ≤ middle N L i j = elim (dec_le (get_or in_rows i 0) (middle N L i j)) [
@@ -44,7 +44,6 @@ module _ {N : ℕ} {L : Plan} {work in_rows in_columns : List ℕ} (s : Stands N
         | yes l ↦ l
         | no l ↦ absurd (true≢false (sym m.second ∙ s.skips.columns j (middle N L i j) both.1 (label-range N (middle N L i j) j both.1).1 (omega arith)))
       ] in
-      let noted = rw (row, column) at lines in
       (omega arith, omega (arith, m.low))
 
   module _ {h low high : ℕ} (k : Seeking N L i j h low high) where

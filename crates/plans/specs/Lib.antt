@@ -1,4 +1,3 @@
 -- What the contracts of `plans` cite.
-pub mod Judge
 pub mod Slotted
 pub mod Stands

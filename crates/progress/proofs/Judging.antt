@@ -3,8 +3,8 @@ use Prim.Native.Nat.{ℕ, zero, suc, ◌+◌, ◌-◌, ◌≤◌, ◌<◌}
 use native.Mathlib.Omega.{arith}
 use mathlib.Core.Logic.{◌⊎◌, ⊎_elim}
 use mathlib.Core.Path.{◌≡◌, refl, sym, ap, subst, ◌∙◌}
-use mathlib.Core.Bool.{Bool, true, false, cond, not, ◌&&◌, and_comm, and-false}
-use lib.Dec.{leb, ltb, eqb, leb-suc-suc}
+use mathlib.Core.Bool.{Bool, true, false, cond, not, ◌&&◌, and-false}
+use lib.Dec.{leb, ltb, eqb}
 use borrow.Author.Tests.{lt-ltb, le-ltb, ltb-true, ltb-false, leb-true, ne_eqb}
 use Rattle.model.specs.Label.{within}
 use Rattle.model.specs.Formula.{Table, C, Y, X, number_of}
@@ -174,20 +174,6 @@ onward-same kind p q g n1 n2 n3 n8 n9 n10 =
     either : (b : Bool) (j k : Kind) → g ≡ onward j p q g → g ≡ onward k p q g → g ≡ onward (cond b j k) p q g
     either true j k e f = e
     either false j k e f = f
-
--- 12 of kind 1: a slot at most one above the highest closed
-pub one-above : (q c : ℕ) → 1 ≤ q → leb (q - 1) c ≡ leb q (suc c)
-one-above q c some = sym (leb-suc-suc (q - 1) c) ∙ ap (λ m. leb m (suc c)) (omega arith)
-
--- 12 of kind 3, whose tests stand in another order
-pub opens-x-turn : (h : Head) (g : Progress) (p : ℕ)
-    → within p g.y && eqb (p + g.x) h.order ≡ in_turn h.order h.coefficients h.slots (opens X) p 0 (progress_of g)
-unfolding in_turn
-opens-x-turn h g p = between (ltb 0 p) (eqb (p + g.x) h.order) (leb p g.y)
-  where
-    between : (a b c : Bool) → (a && c) && b ≡ a && b && c
-    between false b c = refl
-    between true b c = and_comm c b
 
 -- 12 of kinds 4 to 6: C(p) is closed, and so is the second factor
 abbrev pub readable_factor : ℕ → Table → ℕ → Check.Progress → Bool

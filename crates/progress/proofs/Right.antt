@@ -22,12 +22,6 @@ number-few Target.C = omega arith
 number-few Target.Y = omega arith
 number-few Target.X = omega arith
 
-pub is-idle : (t : Target) (k : ℕ) → open_number t ≡ 0 → open_of t k ≡ idle
-is-idle Target.Nothing k e = refl
-is-idle Target.C k e = absurd (omega arith)
-is-idle Target.Y k e = absurd (omega arith)
-is-idle Target.X k e = absurd (omega arith)
-
 pub record Busy (t : Target) (k : ℕ) : Type 0 where
   pub table : Table
   pub is : open_of t k ≡ busy table k

@@ -1,8 +1,9 @@
 -- The progress of a check as the model's, and one record's judgement, 10 to 12. Definitions only.
-use Rattle.std.specs.Prelude.{ℕ, ◌+◌, Bool, true, false, ◌&&◌, eqb}
+use Rattle.std.specs.Prelude.{ℕ, ◌+◌, Bool, true, false, ◌&&◌, eqb, Result, Ok, Err}
 use Rattle.model.specs.Formula.{C, Y, X, number_of}
 use Rattle.model.specs.Check as Check
 use Rattle.model.specs.Check.{idle, busy, kind_of, belongs, formed, in_order, allowed}
+use Rattle.progress.specs.declared.Fault.{Fault}
 use Rattle.progress.specs.declared.Target.{Target}
 use Rattle.progress.specs.declared.Progress.{Progress}
 use Rattle.progress.specs.declared.Head.{Head}
@@ -27,6 +28,16 @@ progress_of g = record { target = open_of g.target g.number; c = g.c; y = g.y; x
 -- what is closed of Y and X; of C the slots bound it
 abbrev pub total : Check.Progress → ℕ
 total g = g.y + g.x
+
+-- the document's number of what is wrong with a record, and of a judgement: 0 where nothing is
+abbrev pub fault_number : Fault → ℕ
+fault_number Fault.Kind = 10
+fault_number Fault.Open = 11
+fault_number Fault.Operand = 12
+
+abbrev pub judged : Result Unit Fault → ℕ
+judged (Ok done) = 0
+judged (Err fault) = fault_number fault
 
 -- 10, then 11, then 12; 0 if none
 unfoldable pub first_of : Bool → Bool → Bool → ℕ

@@ -3,7 +3,7 @@ use Prim.Native.Nat.{ℕ, zero, suc, ◌+◌, ◌*◌, ◌^◌, ◌<◌}
 use native.Mathlib.Nat.{zero-mul}
 use native.Mathlib.Omega.{arith}
 use mathlib.Core.Path.{◌≡◌, refl, sym, ap, ap₂, ◌∙◌}
-use mathlib.Core.Bool.{Bool, true, false, cond}
+use mathlib.Core.Bool.{Bool, true, false, cond, beq}
 use mathlib.Core.List.{List}
 use lib.ListN.{length, replicate, length-replicate, get_or-replicate}
 use lib.IntN.{ℤ, pos, ◌+ℤ◌, ◌-ℤ◌, ◌*ℤ◌, +ℤ_idl}
@@ -34,6 +34,13 @@ shifts d e s t = rw (pow-add 2 s t) (go (2 ^ s) (2 ^ t))
   where
     go : (p q : ℕ) → d * p * (e * q) ≡ d * e * (p * q)
     go p q = omega arith
+
+-- whether both signs are the same
+pub same_signs : (p q : Bool) → beq p q ≡ alike p q
+same_signs true true = refl
+same_signs true false = refl
+same_signs false true = refl
+same_signs false false = refl
 
 -- a times x taken away, by their parts
 pub product-taken : {a x : Float} {p q : Shifted} (minus : Bool) (low high shift : ℕ) (before after : List ℕ) {z : ℤ} → Parted a p → Parted x q

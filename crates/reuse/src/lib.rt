@@ -6,7 +6,7 @@ ghost use Rattle.model.specs.Fill.{Plan};
 ghost use Rattle.model.proofs.Labels.{Inside};
 ghost use Rattle.reuse.specs.Places.{Gave, freed_along, SomeColumn, ColumnAt, SomeRow, RowAt, SomeBatch, BatchAt, Numbered, Gives};
 
-use numbers::{larger, wide};
+use numbers::wide;
 use slots::lines::zeros;
 
 // How far the places are walked, where the free slots begin, the one freed last first, and how many slots there are of all.
@@ -30,10 +30,8 @@ pub fn assign(n: u32, rows: &[u32], given: &mut [u32]) -> u32
         top: given.len(),
         made: 0,
     };
-    let mut m = 1;
-    while m <= n {
+    for m in 1..=n {
         walk = assign_batch(n, rows, &mut last, given, m, walk);
-        m += 1;
     }
     walk.made
 }
@@ -57,28 +55,23 @@ fn assign_batch(
     let from = rows[wide(m)];
     let start = release(n, from, last, given, m, m, column.top);
     let turned = Walk {
-        done: column.done,
         top: start,
-        made: column.made,
+        ..column
     };
     let row = assign_row(n, from, last, given, m, turned);
     let slot = given[pivot];
     let top = push(given, row.top, slot, true);
-    Walk {
-        done: row.done,
-        top,
-        made: row.made,
-    }
+    Walk { top, ..row }
 }
 
 // Column m from the diagonal down: each held place is given a slot.
-fn assign_column(n: u32, given: &mut [u32], m: u32, walk: Walk) -> Walk
+fn assign_column(n: u32, given: &mut [u32], m: u32, mut walk: Walk) -> Walk
     requires inside { Inside n m m }
     requires some_column { SomeColumn n m m given.old walk }
     ensures { (L : Plan) → ColumnAt n L m m given.old walk → ColumnAt n L m (suc n) given.new result }
 {
-    let mut walk = walk;
     let mut t = m;
+    // By hand: t passes over the run of places that are not held, whose length a turn finds; a `for` has no such step.
     while t <= n {
         walk = next_place(given, walk);
         let empty = zeros(given, wide(walk.done), n - t);
@@ -90,14 +83,22 @@ fn assign_column(n: u32, given: &mut [u32], m: u32, walk: Walk) -> Walk
 
 // Row m right of the diagonal: each held place is given a slot, and its formula frees those that it reads last. The row's last held place is
 // noted.
-fn assign_row(n: u32, from: u32, last: &mut [u32], given: &mut [u32], m: u32, walk: Walk) -> Walk
+// Kept: one function for column and row is no plainer: a row also takes from and last, notes its last place and frees slots.
+fn assign_row(
+    n: u32,
+    from: u32,
+    last: &mut [u32],
+    given: &mut [u32],
+    m: u32,
+    mut walk: Walk,
+) -> Walk
     requires inside { Inside n m m }
     requires some_row { SomeRow n m m from last.old given.old walk }
     ensures { (L : Plan) → RowAt n L m m from last.old given.old walk
         → RowAt n L m n from last.new given.new result }
 {
-    let mut walk = walk;
     let mut t = m + 1;
+    // By hand: t passes over the run of places that are not held, whose length a turn finds; a `for` has no such step.
     while t <= n {
         walk = next_in_row(n, from, last, given, m, t, walk);
         let empty = zeros(given, wide(walk.done), n - t);
@@ -129,11 +130,7 @@ fn next_in_row(
     }
     last[wide(m)] = t;
     let top = release(n, from, last, given, m, t, at.top);
-    Walk {
-        done: at.done,
-        top,
-        made: at.made,
-    }
+    Walk { top, ..at }
 }
 
 // The next place, if it is held, is given the slot that was freed last, or a new one if none is free.
@@ -144,30 +141,33 @@ fn next_place(given: &mut [u32], walk: Walk) -> Walk
 {
     let at = wide(walk.done);
     let done = walk.done + 1;
-    let top = walk.top;
-    let made = walk.made;
     if given[at] == 0 {
-        return Walk { done, top, made };
+        return Walk { done, ..walk };
     }
-    if top < given.len() {
-        given[at] = given[top];
+    if walk.top < given.len() {
+        given[at] = given[walk.top];
         return Walk {
             done,
-            top: top + 1,
-            made,
+            top: walk.top + 1,
+            ..walk
         };
     }
-    given[at] = made + 1;
-    Walk {
-        done,
-        top,
-        made: made + 1,
-    }
+    let made = walk.made + 1;
+    given[at] = made;
+    Walk { done, made, ..walk }
 }
 
 // The slots of l(m,h), h rising, that are read last by u(m,t), or by y(m) for t = m, are free. None of row m is held before from. Labels along
 // row m grow by 2 (n - h).
-fn release(n: u32, from: u32, last: &[u32], given: &mut [u32], m: u32, t: u32, top: usize) -> usize
+fn release(
+    n: u32,
+    from: u32,
+    last: &[u32],
+    given: &mut [u32],
+    m: u32,
+    t: u32,
+    mut top: usize,
+) -> usize
     requires inside { Inside n m m × ((n ≤ 600) × (length last.now ≡ 601)) }
     requires m_bound { (n * n + m ≤ top) × (top ≤ length given.old) }
     ensures given_after { drop result given.new
@@ -175,15 +175,13 @@ fn release(n: u32, from: u32, last: &[u32], given: &mut [u32], m: u32, t: u32, t
     ensures lower_bound { (n * n ≤ result) × (result ≤ length given.old) }
     ensures by_index { (k : ℕ) → k < n * n → get_or given.new k 0 ≡ get_or given.old k 0 }
 {
-    let mut top = top;
-    let mut h = larger(1, from);
-    let mut across = wide(labels::label(n, m, h));
-    while h < m {
+    let start = from.max(1);
+    let mut across = wide(labels::label(n, m, start));
+    for h in start..m {
         let slot = given[across - 1];
-        let dies = slot != 0 && larger(m, last[wide(h)]) == t;
+        let dies = slot != 0 && m.max(last[wide(h)]) == t;
         top = push(given, top, slot, dies);
         across += 2 * wide(n - h);
-        h += 1;
     }
     top
 }

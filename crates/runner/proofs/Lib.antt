@@ -1,5 +1,5 @@
 -- The laws that the proofs of `runner` share.
-pub mod Tables
+pub mod Finite
 pub mod Relying
 pub mod Turns
 pub mod Stood

@@ -3,7 +3,7 @@ use Prim.Native.Nat.{ℕ, suc, ◌-◌, ◌*◌, ◌≤◌, ◌<◌}
 use native.Mathlib.Omega.{arith}
 use mathlib.Core.Path.{◌≡◌, refl, sym, ap, ap₂, subst, ◌∙◌}
 use mathlib.Core.Bool.{Bool, true, false}
-use mathlib.Core.List.{List, [], ◌∷◌, map}
+use mathlib.Core.List.{List, map}
 use lib.ListN.{length, drop, replicate, length-map, length-replicate}
 use lib.Seq.{take_all}
 use lib.Ieee.{Float}
@@ -14,18 +14,16 @@ use Rattle.model.specs.Check.{word, chain, is_sweep}
 use Rattle.model.specs.Run as Run
 use Rattle.model.specs.Run.{Outcome, solution, unsettled_at, solves, stops, refuses, reply, started_on, once_more, only_x, swept_over}
 use Rattle.model.proofs.Runs.{done_by}
+use Rattle.std.specs.Prelude.{Result, Ok, Err}
 use Rattle.state.specs.declared.State.{State}
 use Rattle.state.specs.States.{whole, unmoved}
-use Rattle.runner.specs.declared.Followed.{Followed}
-use Rattle.runner.specs.declared.Followed.TheVariants.{Through, Halted}
+use Rattle.state.proofs.Tables.{no_entries}
+use Rattle.runner.specs.declared.Stop.{Stop}
+use Rattle.runner.specs.declared.Failure.TheVariants.{Stopped}
+use Rattle.runner.specs.Outcome.{reply_of}
 use Rattle.runner.specs.Following.{done, stands, Stood, Fit, holding, followed_of, Whole, BeginsWith, EndsWith}
 use Rattle.runner.proofs.Turns.{SameLengths}
 use Rattle.runner.proofs.Stood.{stopped-stood}
-
--- an empty table
-none_left : (vs : List Float) → length vs ≡ 0 → vs ≡ []
-none_left [] e = refl
-none_left (v ∷ vs) e = absurd (omega arith)
 
 module _ (W : List ℕ) (A B : List Float) (limit : Float) where
   -- one sweep of the model, its moves, and how the sweeps end
@@ -97,7 +95,7 @@ module _ {W : List ℕ} {A B : List Float} {limit : Float} where
         let last : 300 - k ≡ 0 = omega arith in
         let end = s.leads ∙ ap (λ d. ending_of W A B limit (sweeps_from W A B limit d k (holding true A B c y x z))) last in
         subst (λ o. Stood o (refuses 27 0) c y x) (sym end)
-        (refl, (none_left c (no_c s.fit s.method), (none_left y (no_y s.fit s.method), sym (whole-tables A B c y x z s.made))))
+        (refl, (no_entries c (no_c s.fit s.method), (no_entries y (no_y s.fit s.method), sym (whole-tables A B c y x z s.made))))
 
     -- else there is one more, and its start is what the records ask for
     pub sweep_begins : k < 300 → BeginsWith true (length A) (length B) (length x) z
@@ -106,7 +104,7 @@ module _ {W : List ℕ} {A B : List Float} {limit : Float} where
         (record { named = m.named; in_c = m.in_c; in_y = m.in_y; in_x = m.in_x; few = omega (arith, m.few); gone = m.gone }, s.still)
 
     -- where its chain led, with the tables c', y' and x'
-    module _ (less : k < 300) {c' y' x' : List Float} (same : SameLengths c y x c' y' x') (r : Followed)
+    module _ (less : k < 300) {c' y' x' : List Float} (same : SameLengths c y x c' y' x') (r : Result State Stop)
         (led : followed_of true A B c' y' x' r ≡ Run.follow A B limit (holding true A B c y x z) (chain W).links)
         (end : EndsWith true limit (length A) (length B) x c' y' x' z r) where
       fit' : Fit W (length A) (length B) (length c') (length y') (length x')
@@ -137,17 +135,16 @@ module _ {W : List ℕ} {A B : List Float} {limit : Float} where
           ∙ ap (λ d. ending_of W A B limit (sweeps_from W A B limit d k (holding true A B c y x z))) more
           ∙ ap (λ f. ending_of W A B limit (next f)) (sym led)
 
-      -- by a refusal
-      pub sweep_halted : (number index table target : ℕ) → r ≡ Halted number index table target
-          → Stood (done W A B limit) (stops number index table target) c' y' x'
+      -- by a fault
+      pub sweep_stopped : (s : Stop) → r ≡ Err s → Stood (done W A B limit) (reply_of (Err (Stopped s))) c' y' x'
       unfolding next
-      sweep_halted number index table target is =
+      sweep_stopped s is =
           let stopped = leads_on ∙ ap (λ r. ending_of W A B limit (next (followed_of true A B c' y' x' r))) is in
           let named = subst (EndsWith true limit (length A) (length B) x c' y' x' z) is end in
-          subst (λ o. Stood o (stops number index table target) c' y' x') (sym stopped) (stopped-stood number index table target c' y' x' named)
+          subst (λ o. Stood o (reply_of (Err (Stopped s))) c' y' x') (sym stopped) (stopped-stood s c' y' x' named)
 
-      module _ (w : State) (is : r ≡ Through w) where
-        ends_so : EndsWith true limit (length A) (length B) x c' y' x' z (Through w)
+      module _ (w : State) (is : r ≡ Ok w) where
+        ends_so : EndsWith true limit (length A) (length B) x c' y' x' z (Ok w)
         ends_so = subst (EndsWith true limit (length A) (length B) x c' y' x' z) is end
 
         told : w.moved ≡ moves W A B limit (holding true A B c y x z) (holding true A B c' y' x' w)
@@ -174,7 +171,7 @@ module _ {W : List ℕ} {A B : List Float} {limit : Float} where
         unfolding reply stands
         sweep_settles e =
             subst (λ o. Stood o (solves w.products w.quotients w.vanished (suc k)) c' y' x') (sym (leads_by e))
-            (refl, (none_left c' (no_c fit' s.method), (none_left y' (no_y fit' s.method), sym (whole-tables A B c' y' x' w ends_so.0))))
+            (refl, (no_entries c' (no_c fit' s.method), (no_entries y' (no_y fit' s.method), sym (whole-tables A B c' y' x' w ends_so.0))))
 
         -- or with the next one
         pub sweep_again : w.moved ≡ true → Sweeping W A B limit c' y' x' (unmoved w) (suc k)

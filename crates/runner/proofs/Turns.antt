@@ -17,13 +17,12 @@ use Rattle.model.specs.Run as Run
 use Rattle.model.proofs.Passing.{both, Passed, fine-passed}
 use Rattle.model.proofs.SweepSteps.{Sized, partly_none, moves_in, whole-entry}
 use Rattle.model.proofs.Running.{Tells, sweep_kind, RunAfter, RunBefore, run_begins, run_ends, next_fits, run_next, run_goes_on, run_stops}
+use Rattle.std.specs.Prelude.{Result, Ok, Err}
 use Rattle.state.specs.declared.State.{State}
-use Rattle.state.specs.declared.Stepped.{Stepped}
-use Rattle.state.specs.declared.Stepped.TheVariants.{On, Stop}
-use Rattle.state.specs.States.{most_made, state_of, unopened, Sound, SoundStep, moves_by}
+use Rattle.state.specs.declared.Fault.{Fault}
+use Rattle.state.specs.States.{number_of_fault, most_made, state_of, unopened, Sound, SoundStep, moves_by}
 use Rattle.state.proofs.Steps.{counted}
-use Rattle.runner.specs.declared.Followed.{Followed}
-use Rattle.runner.specs.declared.Followed.TheVariants.{Through, Halted}
+use Rattle.runner.specs.declared.Stop.{Stop}
 use Rattle.runner.specs.Following.{Fit, in_place, holding, stepped_by, followed_of, ReadyBy, MovesBy, BeginsWith, EndsWith}
 use Rattle.runner.proofs.Relying.{relies, relies_row}
 
@@ -196,7 +195,7 @@ module _ {W : List ℕ} {A B : List Float} {limit : Float} {z₀ : State} {c₀ 
 
   -- a move is told as the run keeps it
   told_by : (sweep : Bool) {c y x : List Float} {z : State} {k : ℕ} (b : NextRuns W A B limit sweep z₀ c₀ y₀ x₀ c y x z k) (some : k ≡ 0 → ⊥) (z' : State)
-      → MovesBy sweep limit z (kind_of (word W (4 * k))) x (On z')
+      → MovesBy sweep limit z (kind_of (word W (4 * k))) x (Ok z')
       → Tells sweep z'.moved (z.moved || moves_in limit (holding sweep A B c y x z) (kind_of (word W (4 * k))))
   told_by false b some z' moves = tt
   told_by true {c} {y} {x} {z} {k} b some z' moves =
@@ -207,7 +206,7 @@ module _ {W : List ℕ} {A B : List Float} {limit : Float} {z₀ : State} {c₀ 
 
   -- at the end of the chain everything is closed
   ends_by : (sweep : Bool) {c y x : List Float} {z : State} → NextRuns W A B limit sweep z₀ c₀ y₀ x₀ c y x z 0
-      → EndsWith sweep limit (length A) (length B) x₀ c y x z₀ (Through z)
+      → EndsWith sweep limit (length A) (length B) x₀ c y x z₀ (Ok z)
   unfolding complete
   ends_by false {c} {y} {x} {z} b =
       let fit = b.ran.fit in
@@ -248,12 +247,12 @@ module _ {W : List ℕ} {A B : List Float} {limit : Float} {z₀ : State} {c₀ 
 
 module _ (W : List ℕ) (A B : List Float) (limit : Float) (sweep : Bool) (z₀ : State) (c₀ y₀ x₀ : List Float) where
   -- what the run ends with: where its chain led, and with what
-  abbrev pub RunEnds : List Float → List Float → List Float → Followed → Type 0
+  abbrev pub RunEnds : List Float → List Float → List Float → Result State Stop → Type 0
   RunEnds c y x r = (followed_of sweep A B c y x r ≡ Run.follow A B limit (holding sweep A B c₀ y₀ x₀ z₀) (chain W).links)
       × EndsWith sweep limit (length A) (length B) x₀ c y x z₀ r
 
 module _ {W : List ℕ} {A B : List Float} {limit : Float} {sweep : Bool} {z₀ : State} {c₀ y₀ x₀ : List Float} where
-  pub ended : {c y x : List Float} {z : State} → NextRuns W A B limit sweep z₀ c₀ y₀ x₀ c y x z 0 → RunEnds W A B limit sweep z₀ c₀ y₀ x₀ c y x (Through z)
+  pub ended : {c y x : List Float} {z : State} → NextRuns W A B limit sweep z₀ c₀ y₀ x₀ c y x z 0 → RunEnds W A B limit sweep z₀ c₀ y₀ x₀ c y x (Ok z)
   ended b = (sym (run_ends b.ran.after b.is).0, ends_by sweep b)
 
   module _ {c y x : List Float} {z : State} {k : ℕ} (b : NextRuns W A B limit sweep z₀ c₀ y₀ x₀ c y x z k) (some : k ≡ 0 → ⊥) where
@@ -261,13 +260,13 @@ module _ {W : List ℕ} {A B : List Float} {limit : Float} {sweep : Bool} {z₀ 
     ready = ready_by sweep b some
 
     -- r is what the step at record k gave, with the tables c', y' and x'
-    module _ {c' y' x' : List Float} {r : Stepped} (same : SameLengths c y x c' y' x')
+    module _ {c' y' x' : List Float} {r : Result State Fault} (same : SameLengths c y x c' y' x')
         (is : stepped_by sweep A B c' y' x' r
         ≡ Run.step A B limit (holding sweep A B c y x z) (kind_of (word W (4 * k))) (word W (4 * k + 1)) (word W (4 * k + 2)))
         (sound : SoundStep (length (in_place sweep A c)) (length (in_place sweep B y)) (length x) r)
         (moves : MovesBy sweep limit z (kind_of (word W (4 * k))) x r) where
       -- the run goes on
-      pub turned : {z' : State} → r ≡ On z' → LastRan W A B limit sweep z₀ c₀ y₀ x₀ c' y' x' z' k
+      pub turned : {z' : State} → r ≡ Ok z' → LastRan W A B limit sweep z₀ c₀ y₀ x₀ c' y' x' z' k
       turned {z'} e =
           let fit = b.ran.fit in
           record {
@@ -291,9 +290,10 @@ module _ {W : List ℕ} {A B : List Float} {limit : Float} {sweep : Bool} {z₀ 
           }
 
       -- or stops there
-      pub stopped-at : {number : ℕ} → r ≡ Stop number → RunEnds W A B limit sweep z₀ c₀ y₀ x₀ c' y' x' (Halted number k z.table z.target)
-      stopped-at {number} e = (
-        sym (run_stops b.ran.method (before b some) number (ap (stepped_by sweep A B c' y' x') (sym e) ∙ is)),
+      pub stopped-at : {fault : Fault} → r ≡ Err fault
+          → RunEnds W A B limit sweep z₀ c₀ y₀ x₀ c' y' x' (Err (record { fault = fault; «record» = k; table = z.table; target = z.target }))
+      stopped-at {fault} e = (
+        sym (run_stops b.ran.method (before b some) (number_of_fault fault) (ap (stepped_by sweep A B c' y' x') (sym e) ∙ is)),
         b.ran.sound.named,
       )
 

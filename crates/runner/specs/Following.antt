@@ -1,5 +1,5 @@
 -- What the records of a checked program leave, by its method, and the lengths that 14 asks for. Definitions only.
-use Rattle.std.specs.Prelude.{ℕ, ◌+◌, ◌≤◌, ◌≡◌, Bool, true, false, List, map, length, Float}
+use Rattle.std.specs.Prelude.{ℕ, ◌+◌, ◌≤◌, ◌≡◌, Bool, true, false, List, map, length, Float, Result, Ok, Err}
 use Rattle.model.specs.Arith.{clean}
 use Rattle.model.specs.Formula.{Table, C, Y, X, number_of}
 use Rattle.model.specs.Sweep.{moved}
@@ -8,10 +8,9 @@ use Rattle.model.specs.Run as Run
 use Rattle.model.specs.Run.{Outcome, solution, stopped, refused_by, unsettled_at, Reply, reply, entries_of}
 use Rattle.model.proofs.Runs.{lengths_right, done_by}
 use Rattle.state.specs.declared.State.{State}
-use Rattle.state.specs.declared.Stepped.{Stepped}
-use Rattle.state.specs.States.{table_of, state_of, stepped_of, unopened, Ready, SweepReady, MovesStep}
-use Rattle.runner.specs.declared.Followed.{Followed}
-use Rattle.runner.specs.declared.Followed.TheVariants.{Through, Halted}
+use Rattle.state.specs.declared.Fault.{Fault}
+use Rattle.state.specs.States.{number_of_fault, table_of, state_of, stepped_of, unopened, Ready, SweepReady, MovesStep}
+use Rattle.runner.specs.declared.Stop.{Stop}
 
 -- the run of all records
 abbrev pub done : List ℕ → List Float → List Float → Float → Outcome
@@ -52,19 +51,19 @@ in_place false given lent = lent
 abbrev pub holding : Bool → List Float → List Float → List Float → List Float → List Float → State → Run.State
 holding sweep a b c y x z = state_of z (in_place sweep a c) (in_place sweep b y) x
 
-abbrev pub stepped_by : Bool → List Float → List Float → List Float → List Float → List Float → Stepped → Run.Stepped
+abbrev pub stepped_by : Bool → List Float → List Float → List Float → List Float → List Float → Result State Fault → Run.Stepped
 stepped_by sweep a b c y x r = stepped_of r (in_place sweep a c) (in_place sweep b y) x
 
-abbrev pub followed_of : Bool → List Float → List Float → List Float → List Float → List Float → Followed → Run.Followed
-followed_of sweep a b c y x (Through z) = Run.through (holding sweep a b c y x z)
-followed_of sweep a b c y x (Halted number index table target) = Run.halted number index (table_of table) target
+abbrev pub followed_of : Bool → List Float → List Float → List Float → List Float → List Float → Result State Stop → Run.Followed
+followed_of sweep a b c y x (Ok z) = Run.through (holding sweep a b c y x z)
+followed_of sweep a b c y x (Err s) = Run.halted (number_of_fault s.fault) s.record (table_of s.table) s.target
 
 -- what one record relies on, and what it tells of a move
 abbrev pub ReadyBy : Bool → ℕ → ℕ → ℕ → ℕ → ℕ → State → ℕ → ℕ → ℕ → Type 0
 ReadyBy true la lb lc ly lx z kind p q = SweepReady la lb lx z kind p q
 ReadyBy false la lb lc ly lx z kind p q = Ready la lb lc ly lx z kind p q
 
-abbrev pub MovesBy : Bool → Float → State → Kind → List Float → Stepped → Type 0
+abbrev pub MovesBy : Bool → Float → State → Kind → List Float → Result State Fault → Type 0
 MovesBy true limit z k x r = MovesStep limit z k x r
 MovesBy false limit z k x r = Unit {0}
 
@@ -83,8 +82,8 @@ BeginsWith true la lb lx z = Whole la lb lx 29900000000 z × (z.moved ≡ false)
 BeginsWith false la lb lx z = z ≡ unopened
 
 -- what they end with: all entries closed; or a sweep that tells whether a row moved, x₀ being the X before it
-abbrev pub EndsWith : Bool → Float → ℕ → ℕ → List Float → List Float → List Float → List Float → State → Followed → Type 0
-EndsWith true limit la lb x₀ c y x z (Through z') =
+abbrev pub EndsWith : Bool → Float → ℕ → ℕ → List Float → List Float → List Float → List Float → State → Result State Stop → Type 0
+EndsWith true limit la lb x₀ c y x z (Ok z') =
     Whole la lb (length x) (z.products + z.quotients + 100000000) z' × (z'.moved ≡ moved limit (length x) x₀ x)
-EndsWith false limit la lb x₀ c y x z (Through z') = (z'.c ≡ length c) × (z'.y ≡ length y) × (z'.x ≡ length x)
-EndsWith sweep limit la lb x₀ c y x z (Halted number index table target) = number_of (table_of table) ≡ table
+EndsWith false limit la lb x₀ c y x z (Ok z') = (z'.c ≡ length c) × (z'.y ≡ length y) × (z'.x ≡ length x)
+EndsWith sweep limit la lb x₀ c y x z (Err s) = number_of (table_of s.table) ≡ s.table

@@ -1,7 +1,6 @@
 -- Laws of the numbers of right sides: one side's changed, those of the first sides one by one, and their parts of a table.
 use Prim.Native.Nat.{ℕ, zero, suc, ◌+◌, ◌*◌, ◌≤◌, ◌<◌}
 use native.Mathlib.Nat.{not-suc-le-zero, le_of_suc-le-suc, eq-or-lt_of_le, mul-le-mul_right}
-use native.Mathlib.Numerals.{add-one}
 use native.Mathlib.Omega.{arith}
 use mathlib.Core.Path.{◌≡◌, refl, sym, ap, ◌∙◌}
 use mathlib.Core.Bool.{true, false, ◌&&◌, or-true}
@@ -145,11 +144,6 @@ unfolding any_going
 any_found zero r out h e = absurd (not-suc-le-zero h)
 any_found (suc k) r out h e =
     ⊎_elim (λ here. rw (← here, eq-eqb _ _ e) (or-true (any_going r out))) (λ below. rw (any_found k r out below e)) (eq-or-lt_of_le (le_of_suc-le-suc h))
-
--- one more that does not
-pub any-more : (r : ℕ) (out : List ℕ) → any_going r out ≡ false → (get_or out (4 * r + 1) 0 ≡ 0 → ⊥) → any_going (r + 1) out ≡ false
-unfolding any_going
-any-more r out none e = rw (add-one, none, ne_eqb _ _ e)
 
 -- ---- the sides' parts of a table
 

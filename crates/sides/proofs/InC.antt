@@ -15,9 +15,9 @@ use Rattle.model.specs.Run as Run
 use Rattle.model.specs.Run.{going, stop, step, settled_step, subtracted, divided_by, closing, Followed, through, halted}
 use Rattle.model.proofs.Reached.{advance}
 use Rattle.state.specs.declared.State.{State}
-use Rattle.state.specs.declared.Stepped.{Stepped}
-use Rattle.state.specs.declared.Stepped.TheVariants.{On, Stop}
-use Rattle.state.specs.States.{table_of, state_of, stepped_of, SoundStep, WorksOn, works_in, ReadyInC}
+use Rattle.std.specs.Prelude.{Result, Ok, Err}
+use Rattle.state.specs.declared.Fault.{Fault}
+use Rattle.state.specs.States.{table_of, state_of, stepped_of, number_of_fault, SoundStep, WorksOn, works_in, ReadyInC}
 use Rattle.sides.specs.Cells.{Cell, cell_of, if_going, ended_by, Each}
 use Rattle.sides.specs.Standing.{own, alone, StandsAt, Kept, StepsInC, SoundInC}
 
@@ -113,7 +113,7 @@ with_rows z after = record {
 }
 
 -- the state without Y and X has made its step
-module _ (A : List Float) (limit : Float) (k kind p q : ℕ) (z : State) (c c' y₁ x₁ : List Float) (r : Stepped)
+module _ (A : List Float) (limit : Float) (k kind p q : ℕ) (z : State) (c c' y₁ x₁ : List Float) (r : Result State Fault)
     (is : stepped_of r c' y₁ x₁ ≡ step A [] limit (state_of (alone z) c [] []) (kind_of kind) p q) {la lc : ℕ} (ready : ReadyInC la lc (alone z) kind p q)
     (count : ℕ) (running : List Float) (out : List ℕ) where
   -- one right side's step is beside it
@@ -125,7 +125,7 @@ module _ (A : List Float) (limit : Float) (k kind p q : ℕ) (z : State) (c c' y
       (kind_of kind) ready.in_c ready.works_on (running_in_c z cell ready.ready.sound.named))
 
   -- the step goes on, and with it each side that does
-  pub goes_on : (after : State) → r ≡ On after → SoundStep lc 0 0 r
+  pub goes_on : (after : State) → r ≡ Ok after → SoundStep lc 0 0 r
       → StepsInC count A limit k kind p q z c running out (with_rows z after) c' running out × (SoundInC lc z (with_rows z after) × Kept count out out)
   goes_on after e still =
       let sound = subst (SoundStep lc 0 0) e still in (
@@ -145,10 +145,10 @@ module _ (A : List Float) (limit : Float) (k kind p q : ℕ) (z : State) (c c' y
           )
 
   -- the step stops, and each side that went on ends there
-  pub ends : {n : ℕ} {running' : List Float} {out' : List ℕ} → r ≡ Stop n
-      → Each count (λ i. if_going (ended_by (record { «record» = k; table = z.table; target = z.target }) n)) running out running' out'
+  pub ends : {fault : Fault} {running' : List Float} {out' : List ℕ} → r ≡ Err fault
+      → Each count (λ i. if_going (ended_by (record { «record» = k; table = z.table; target = z.target }) (number_of_fault fault))) running out running' out'
       → StepsInC count A limit k kind p q z c running out z c' running' out' × (SoundInC lc z z × Kept count out out')
-  ends {n} {running'} {out'} e each = (
+  ends {fault} {running'} {out'} e each = (
     λ i f b y x h at. subst (λ cell. StandsAt z cell c' y x (advance A b limit (record { index = k; at = rec kind p q }) f)) (sym (each.changed i h))
         (stands (cell_of running out i) f b y x at),
     (
@@ -158,7 +158,7 @@ module _ (A : List Float) (limit : Float) (k kind p q : ℕ) (z : State) (c c' y
   )
     where
       stands : (cell : Cell) (f : Followed) (b y x : List Float) → StandsAt z cell c y x f
-          → StandsAt z (if_going (ended_by (record { «record» = k; table = z.table; target = z.target }) n) cell) c' y x
+          → StandsAt z (if_going (ended_by (record { «record» = k; table = z.table; target = z.target }) (number_of_fault fault)) cell) c' y x
           (advance A b limit (record { index = k; at = rec kind p q }) f)
       stands cell (halted m i t j) b y x at = rw (ne_eqb cell.answer 0 (λ zero. omega arith)) at
       stands cell (through w) b y x (goes, at) =

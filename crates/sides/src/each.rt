@@ -2,12 +2,14 @@
 // its answer, 0 while it goes on, and the table and number of the target it was refused at, and while it goes on how many of its products vanished.
 ghost use Rattle.std.specs.Prelude.{◌≡◌, ◌+◌, ◌*◌, ◌≤◌, ◌<◌, length, get_or};
 ghost use Rattle.model.specs.Arith.{plus_zero};
-ghost use Rattle.state.specs.States.{most_made};
+ghost use Rattle.state.specs.States.{most_made, number_of_fault};
 ghost use Rattle.sides.specs.Cells.{if_going, ended_by, subtracted, divided, One, Each, Started, read_as, Closed, any_going, Room, Laid, FewGone};
 
 use arith::Operation;
+use state::Fault;
 
 // Where a refusal stands: its record, and the table and number of the open target.
+// Kept: the table by its number, as the state has it and the C interface tells it.
 #[derive(Clone, Copy)]
 pub struct At {
     pub record: u32,
@@ -16,6 +18,8 @@ pub struct At {
 }
 
 // The sides' running numbers start from an entry of each part, which of B is read: v(r) = b(r, i) or y(r, i).
+// Kept: a closure in `given`'s place would need a contract of its own, which says of each call what `read_as` says here.
+// By hand, here and below: r names the side's part, at r * order, and its four numbers in out; a zip of chunks of both is no plainer.
 pub fn start_each(
     values: &[f64],
     order: usize,
@@ -72,8 +76,8 @@ fn subtract_one(factor: f64, value: f64, at: At, r: usize, running: &mut [f64], 
             running[r] = value;
             out[4 * r + 4] += 1;
         }
-        Operation::Overflow => end_one(16, at, r, running, out),
-        Operation::ZeroDivisor => end_one(17, at, r, running, out),
+        Operation::Overflow => end_one(Fault::Overflow, at, r, running, out),
+        Operation::ZeroDivisor => end_one(Fault::ZeroDivisor, at, r, running, out),
     }
 }
 
@@ -97,31 +101,35 @@ fn divide_one(by: f64, at: At, r: usize, running: &mut [f64], out: &mut [u64])
     }
     match arith::quotient(running[r], by) {
         Operation::Number(value) | Operation::Vanished(value) => running[r] = value,
-        Operation::Overflow => end_one(16, at, r, running, out),
-        Operation::ZeroDivisor => end_one(17, at, r, running, out),
+        Operation::Overflow => end_one(Fault::Overflow, at, r, running, out),
+        Operation::ZeroDivisor => end_one(Fault::ZeroDivisor, at, r, running, out),
     }
 }
 
 // Every side that goes on is refused: where C is.
-pub fn end_each(number: u32, at: At, count: usize, running: &mut [f64], out: &mut [u64])
+pub fn end_each(fault: Fault, at: At, count: usize, running: &mut [f64], out: &mut [u64])
     requires { Room count (length running.old) (length out.old) }
-    ensures { Each count (λ r. if_going (ended_by at number)) running.old out.old running.new out.new }
+    ensures { Each count (λ r. if_going (ended_by at (number_of_fault fault))) running.old out.old running.new out.new }
 {
     for r in 0..count {
         if out[4 * r + 1] == 0 {
-            end_one(number, at, r, running, out);
+            end_one(fault, at, r, running, out);
         }
     }
 }
 
-// One side is refused, by a number and at a record.
-fn end_one(number: u32, at: At, r: usize, running: &mut [f64], out: &mut [u64])
+// One side is refused, by 16 or 17 and at a record.
+fn end_one(fault: Fault, at: At, r: usize, running: &mut [f64], out: &mut [u64])
     requires { (r < 64) × ((length running.old ≡ 64) × (length out.old ≡ 257)) }
-    ensures { One r (ended_by at number) running.old out.old running.new out.new }
+    ensures { One r (ended_by at (number_of_fault fault)) running.old out.old running.new out.new }
 {
-    out[4 * r + 1] = number as u64 * 4_294_967_296 + at.record as u64;
-    out[4 * r + 2] = at.table as u64;
-    out[4 * r + 3] = at.target as u64;
+    let number = match fault {
+        Fault::Overflow => 16,
+        Fault::ZeroDivisor => 17,
+    };
+    out[4 * r + 1] = (number << 32) + u64::from(at.record);
+    out[4 * r + 2] = u64::from(at.table);
+    out[4 * r + 3] = u64::from(at.target);
     out[4 * r + 4] = 0;
 }
 
@@ -141,12 +149,5 @@ pub fn any_going(out: &[u64], count: usize) -> bool
     requires { (count ≤ 64) × (length out.now ≡ 257) }
     ensures { result ≡ any_going count out.now }
 {
-    let mut r = 0;
-    while r < count {
-        if out[4 * r + 1] == 0 {
-            return true;
-        }
-        r += 1;
-    }
-    false
+    (0..count).any(|r| out[4 * r + 1] == 0)
 }

@@ -1,7 +1,6 @@
 -- Along a line: the places before the t-th are done, and the work numbers after them are as they came.
 use Prim.Native.Nat.{ℕ, zero, suc, ◌+◌, ◌-◌, ◌≤◌, ◌<◌, max}
 use native.Mathlib.Nat.{add-zero, mul-le-mul}
-use native.Mathlib.Decide.{dec_le}
 use native.Mathlib.Omega.{arith}
 use mathlib.Core.Path.{◌≡◌, refl, sym, ap, ◌∙◌}
 use mathlib.Core.Bool.{Bool, true, false, and-eq-true_iff}
@@ -12,7 +11,7 @@ use lib.ListN.{length, get_or, drop}
 use Rattle.model.specs.Fill.{Plan, held}
 use Rattle.model.proofs.Lists.{drop-later}
 use Rattle.model.proofs.Search.{some-none}
-use Rattle.slots.specs.Walked.{Sized, Reached, EmptyRun, Settled}
+use Rattle.slots.specs.Walked.{Sized, Reached, Standing, EmptyRun, Settled}
 use Rattle.slots.specs.Batch.{row_of, column_of, first_of, noted_of, pair_at, empty_at}
 use Rattle.slots.specs.declared.Walk.{Walk}
 use Rattle.slots.proofs.Here.{Here, here, line-next, line-rest}
@@ -28,14 +27,6 @@ pub record Along (N : ℕ) (L : Plan) (before : List ℕ) (across : Bool) (m t :
   pub size : length work ≡ length before
   pub reached : Reached N L across m t walk work in_rows in_columns
   pub rest : drop walk.done work ≡ drop walk.done before
-
--- one more place is empty
-pub run_more : {N : ℕ} {across : Bool} {m t done : ℕ} {work in_rows in_columns : List ℕ} (r k index : ℕ) → EmptyRun N across m t done work in_rows in_columns r
-    → k ≡ t + r → index ≡ done + r → empty_at N across m work in_rows in_columns k index ≡ true → EmptyRun N across m t done work in_rows in_columns (suc r)
-run_more {N} {across} {m} {t} {done} {work} {in_rows} {in_columns} r k index run at-k at-index empty = record {
-  inside = omega (arith, leb-true k N ((and-eq-true_iff (leb k N) _).0 empty).0);
-  empty = λ a below. elim (dec_le r a) [ yes last ↦ let e : a ≡ r = omega arith in rw (e, ← at-k, ← at-index) empty | no earlier ↦ run.empty a (omega arith) ];
-}
 
 pub along_start : {N : ℕ} {L : Plan} {across : Bool} {m : ℕ} {walk : Walk} {work in_rows in_columns : List ℕ} (t : ℕ) → t ≡ first_of across m → m ≤ N
     → Reached N L across m (first_of across m) walk work in_rows in_columns → Along N L work across m t walk work in_rows in_columns
@@ -119,3 +110,12 @@ module _ {N : ℕ} {L : Plan} {before : List ℕ} {across : Bool} {m : ℕ} (siz
 pub along_end : {N : ℕ} {L : Plan} {before : List ℕ} {across : Bool} {m t : ℕ} {walk : Walk} {work in_rows in_columns : List ℕ}
     → Along N L before across m t walk work in_rows in_columns → N < t → Reached N L across m (suc N) walk work in_rows in_columns
 along_end {N} {t = t} along past = let e : suc N ≡ t = omega (arith, along.to) in rw e along.reached
+
+-- the place of a turn, for the plan that the line's places stand for
+pub along_at : {N m t i j : ℕ} {across : Bool} {start walk : Walk} {before rows_before columns_before work in_rows in_columns : List ℕ}
+    → Sized N before × (1 ≤ m) × (m ≤ N)
+    → (standing : Standing N across m (first_of across m) start before rows_before columns_before)
+    → ((L : Plan) → Reached N L across m (first_of across m) start before rows_before columns_before
+    → Along N L before across m t walk work in_rows in_columns)
+    → t ≤ N → i ≡ row_of across m t → j ≡ column_of across m t → Here N standing.plan m i j walk work in_rows in_columns
+along_at p standing along inside row column = along_here p.0 p.1 p.2 _ _ (along standing.plan standing.reached) inside row column

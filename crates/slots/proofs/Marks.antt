@@ -1,17 +1,22 @@
 -- A plan marked in the work numbers, label by label; and that any work numbers mark some plan.
-use Prim.Native.Nat.{ℕ, zero, suc, ◌-◌, ◌*◌, ◌≤◌, ◌<◌}
+use Prim.Native.Nat.{ℕ, zero, suc, ◌+◌, ◌-◌, ◌*◌, ◌≤◌, ◌<◌}
 use native.Mathlib.Decide.{ℕ_discrete, dec_le}
+use native.Mathlib.Nat.{mul-le-mul}
+use native.Mathlib.Numerals.{add-one}
 use native.Mathlib.Omega.{arith}
 use mathlib.Core.Path.{◌≡◌, refl, sym, ap, ◌∙◌}
 use mathlib.Core.Bool.{Bool, true, false, cond, or-true, or-false}
 use mathlib.Core.List.{List, [], ◌∷◌, ◌++◌, append-nil}
 use borrow.Author.Tests.{lt-ltb, eq-eqb, ne_eqb}
 use lib.Dec.{ltb}
-use lib.ListN.{length, length-set, get_or, set, drop, replicate, length-replicate, get_or-replicate, length-append, length-drop, get_or-append}
-use lib.Seq.{get_or-set_same, get_or-set_other, drop-set-lt, drop_at}
+use lib.ListN.{length, length-set, get_or, set, take, drop, replicate, length-replicate, get_or-replicate, length-append, length-drop, get_or-append}
+use lib.Seq.{get_or-set_same, get_or-set_other, drop-set-lt, drop_at, length-take-le, take-suc}
+use Rattle.model.specs.Label.{is_order}
+use Rattle.model.specs.Compile.{judged, good}
 use Rattle.model.specs.Fill.{Plan, position_from, position}
 use Rattle.model.proofs.WorkNumbers.{positions-first}
-use Rattle.model.proofs.Plans.{position_more, planned_more}
+use Rattle.model.proofs.Within.{within-range}
+use Rattle.model.proofs.Plans.{position_more, planned_more, plan-length, label_inside, label_new}
 use Rattle.slots.specs.Marks.{Marks, Marked}
 
 -- ---- marking a plan
@@ -63,6 +68,21 @@ positioned_more {N} {L} {before} {work} y m room low high new = record {
     here k below (no d) =
         rw (get_or-set_other work (y - 1) k (suc (length L)) 0 d, position_more L y (suc k), ne_eqb y (suc k) (λ e. d (omega arith)))
         (m.each k below ∙ or-none (position L (suc k)))
+
+-- a plan's label in its turn: in range, and few are before it
+pub label_small : (N : ℕ) (L : Plan) (k : ℕ) → is_order N ≡ true → judged N 0 1 L ≡ good → k < length L
+    → (1 ≤ get_or L k 0) × (get_or L k 0 ≤ N * N) × (k < 360000)
+label_small N L k order rises below =
+    let high = (within-range N 600 order).1 in
+    let inside = label_inside N L k rises below in
+    (inside.0, inside.1, omega (arith, plan-length N L rises, mul-le-mul {n₂ = 600} {m₂ = 600} high high))
+
+pub marked_more : (N : ℕ) (L : Plan) (k at : ℕ) {before work : List ℕ} → N * N ≤ length before → judged N 0 1 L ≡ good → k < length L → at ≡ get_or L k 0 - 1
+    → Positioned N (take k L) before work → Positioned N (take (k + 1) L) before (set work at (k + 1))
+marked_more N L k at room rises below e m =
+    let inside = label_inside N L k rises below in
+    let size : suc (length (take k L)) ≡ k + 1 = omega (arith, length-take-le k L (omega arith)) in
+    rw (add-one, take-suc L k 0 below, e) (rw (size, add-one) at (positioned_more _ m room inside.0 inside.1 (label_new N L k rises below)))
 
 -- ---- any work numbers mark a plan
 

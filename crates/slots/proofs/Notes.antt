@@ -2,20 +2,13 @@
 use Prim.Native.Nat.{ℕ, ◌≤◌, ◌<◌, min}
 use native.Mathlib.Decide.{ℕ_discrete}
 use native.Mathlib.Omega.{arith}
-use mathlib.Core.Path.{◌≡◌, refl, sym}
+use mathlib.Core.Path.{◌≡◌, refl}
 use mathlib.Core.Bool.{Bool, true, false, cond}
 use mathlib.Core.List.{List}
 use mathlib.Core.Logic.{◌⊎◌, inl, inr, ⊎_elim}
 use lib.ListN.{length, length-set, get_or, set}
-use lib.Seq.{set-get_or, get_or-set_same, get_or-set_other}
+use lib.Seq.{get_or-set_same, get_or-set_other}
 use Rattle.slots.specs.Walked.{Noted}
-
-module _ (l : List ℕ) (k h : ℕ) where
-  pub note_less : h < get_or l k 0 → set l k h ≡ set l k (min h (get_or l k 0))
-  note_less less = let m : min h (get_or l k 0) ≡ h = omega arith in rw m
-
-  pub note_more : get_or l k 0 ≤ h → l ≡ set l k (min h (get_or l k 0))
-  note_more more = let m : min h (get_or l k 0) ≡ get_or l k 0 = omega arith in rw m (sym (set-get_or l k 0))
 
 -- the notes after place h of line k, if it is taken
 module _ {l l' : List ℕ} {k h : ℕ} {taken : Bool} (n : Noted k h taken l l') where

@@ -17,9 +17,9 @@ use Rattle.model.proofs.Slots.{closed_none, closed_all}
 use Rattle.model.proofs.Lines.{row-size}
 use Rattle.model.proofs.Sums.{rising-last}
 use Rattle.model.proofs.WorkNumbers.{slot-numbers-length, slot_next, closed_along}
-use Rattle.model.proofs.Batches.{down_of, right_of, batch_products, above_by_batches, products_by_batches}
+use Rattle.model.proofs.Batches.{down_of, right_of, batch_products, above_by_batches, products_by_batches, line-at_most, batch-at_most, batches_at_most}
 use Rattle.slots.specs.Marks.{Marks}
-use Rattle.slots.specs.Walked.{Reached, FillsPlan}
+use Rattle.slots.specs.Walked.{Reached, Lined, FillsPlan}
 use Rattle.slots.specs.declared.Walk.{Walk}
 use Rattle.slots.proofs.Here.{work_number}
 
@@ -165,6 +165,54 @@ module _ {N : ℕ} {L : Plan} {before : List ℕ} {m : ℕ} {walk : Walk} {produ
       products-are = p ∙ rw pass.products-are (sym (one_more (batch_products N L) m pass.from));
       over-are = o ∙ rw pass.over-are (sym (one_more (right_of N L) m pass.from));
     }
+
+-- a turn of the pass: batch m's column from the diagonal down, and then its row
+module _ {N m : ℕ} {before : List ℕ} {walk middle : Walk} {products over gone : ℕ} {work in_rows in_columns work' in_rows' in_columns' : List ℕ}
+    (pass : (L : Plan) → Marks N L 0 before → Passing N L before m walk products over gone work in_rows in_columns) (high : m ≤ N)
+    (column : Lined N false m walk middle work in_rows in_columns work' in_rows' in_columns') (L : Plan) (marked : Marks N L 0 before) where
+  pub turn_column : ColumnDone N L m walk middle work' in_rows' in_columns'
+  turn_column = let p = pass L marked in column-done p high (column.reached L p.reached)
+
+  module _ {last : Walk} {work'' in_rows'' in_columns'' : List ℕ} (row : Lined N true m middle last work' in_rows' in_columns' work'' in_rows'' in_columns'')
+      {pivot : ℕ} (at : pivot ≡ walk.done) (from : ℕ) (e : from ≡ max walk.used (get_or work' pivot 0)) where
+    turn_row : RowDone N L m middle last work'' in_rows'' in_columns''
+    turn_row = row_done (pass L marked).from high turn_column.turned (row.reached L turn_column.turned)
+
+    -- the slots that it gives, below the pivot and right of it
+    turn_given : (middle.used ≡ from + down_of N L m) × (last.used ≡ middle.used + right_of N L m)
+    turn_given = (down_given (pass L marked) high turn_column from (rw at at e), turn_row.given)
+
+    -- they and the sums stay small
+    pub turn_small : N ≤ 600 → (batch : ℕ) → let down = middle.used - from in let right = last.used - middle.used in batch ≡ down * right + down + right
+        → (from ≤ middle.used) × (middle.used ≤ last.used) × (down ≤ 600) × (right ≤ 600) × (products + batch ≤ 220000000) × (over ≤ 360000)
+    turn_small order batch b =
+        let p = pass L marked in
+        let g = turn_given in
+        let below : middle.used - from ≡ down_of N L m = omega (arith, g.0) in
+        let beside : last.used - middle.used ≡ right_of N L m = omega (arith, g.1) in
+        let all : batch ≡ batch_products N L m = b ∙ ap₂ (λ d r. d * r + d + r) below beside in
+        omega (
+          arith,
+          g,
+          p.products-are,
+          p.over-are,
+          batches_at_most N L order (m - 1),
+          batch-at_most N L order m,
+          line-at_most N L order (λ i. held N L i m) m,
+          line-at_most N L order (held N L m) m,
+          high,
+        )
+
+    -- and the next turn follows
+    pub turn_next : (batch gone' : ℕ) → let down = middle.used - from in let right = last.used - middle.used in batch ≡ down * right + down + right
+        → gone' ≡ cond (eqb (get_or work' pivot 0) 0 && eqb gone 0) m gone → length work'' ≡ length before
+        → Passing N L before (suc m) last (products + batch) (over + right) gone' work'' in_rows'' in_columns''
+    turn_next batch gone' b g size =
+        let given = turn_given in
+        let below : middle.used - from ≡ down_of N L m = omega (arith, given.0) in
+        let beside : last.used - middle.used ≡ right_of N L m = omega (arith, given.1) in
+        pass_next (pass L marked) high turn_column column.rest turn_row size row.rest
+        (ap (λ k. products + k) (b ∙ ap₂ (λ d r. d * r + d + r) below beside)) (ap (λ k. over + k) beside) (rw at at g)
 
 pub pass_end : {N : ℕ} {L : Plan} {before : List ℕ} {m : ℕ} {walk : Walk} {products over gone : ℕ} {work in_rows in_columns : List ℕ}
     → Passing N L before m walk products over gone work in_rows in_columns → N < m

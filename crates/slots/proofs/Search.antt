@@ -6,7 +6,6 @@ use native.Mathlib.Omega.{arith}
 use mathlib.Core.Path.{◌≡◌, refl, sym, ap, ap₂, ◌∙◌}
 use mathlib.Core.Bool.{Bool, true, false, cond, ◌&&◌, ◌||◌, and-false, or-true}
 use mathlib.Core.List.{List}
-use borrow.Author.Tests.{lt-ltb}
 use lib.Dec.{ltb}
 use lib.ListN.{length, get_or}
 use Rattle.model.specs.Lists.{some}
@@ -115,11 +114,11 @@ module _ {N : ℕ} {L : Plan} {m i j : ℕ} {walk : Walk} {work in_rows in_colum
       low false = omega (arith, at.walked.row_low i (omega (arith, at.inside, at.sized)))
 
   pub search_begins : {planned : Bool} {h low high : ℕ} → h ≡ cond planned m (max (get_or in_rows i 0) (get_or in_columns j 0))
-      → (ltb h m ≡ true → suc low ≡ label N i h) → (ltb h m ≡ true → suc high ≡ label N h j) → Searching N work m i j planned h low high
+      → (h < m → suc low ≡ label N i h) → (h < m → suc high ≡ label N h j) → Searching N work m i j planned h low high
   search_begins {planned} {h} e l r = record {
     from = start-low planned e;
-    low-at = λ before. l (lt-ltb h m before);
-    high-at = λ before. r (lt-ltb h m before);
+    low-at = l;
+    high-at = r;
     tried = λ free k low below inside. none_before k low (omega (arith, rw free at e)) inside;
   }
 

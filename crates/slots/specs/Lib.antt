@@ -2,5 +2,6 @@
 pub mod Batch
 pub mod Marks
 pub mod Skips
+pub mod Unnoted
 pub mod Walked
 pub mod Zeros

@@ -1,11 +1,12 @@
 // Batch m's column from the diagonal down or, across, its row right of the diagonal; and the work numbers along it that are 0.
-ghost use Rattle.std.specs.Prelude.{◌≡◌, true, ◌+◌, ◌≤◌, length};
+ghost use Rattle.std.specs.Prelude.{◌≡◌, ℕ, true, ◌+◌, ◌*◌, ◌<◌, ◌≤◌, eqb, length, take, drop};
 ghost use Rattle.slots.specs.Batch.{row_of, column_of, first_of};
-ghost use Rattle.slots.specs.Zeros.{Zeros};
+ghost use Rattle.slots.specs.Zeros.{Zeros, FirstZeros, largest};
 
-use numbers::{larger, wide};
+use numbers::wide;
 
 // The row and the column of a line's t-th place, and the first t.
+// Kept: across as a bool: row_of, column_of and first_of of specs/Batch.antt, which these clauses name, take it so.
 pub fn row_of(across: bool, m: u32, t: u32) -> u32
     ensures { result ≡ row_of across m t }
 {
@@ -30,27 +31,25 @@ pub fn zeros(work: &[u32], from: usize, most: u32) -> u32
     requires { (from + most ≤ length work.now) × (from ≤ 360000) }
     ensures { Zeros work.now from most result }
 {
+    let line = &work[from..from + wide(most)];
     let mut k = 0;
-    while 16 <= most - k && block_is_zero(work, from + wide(k)) {
+    // By hand: `chunks_exact(16).take_while(is_zero).count()` was tried, and its proof did not close.
+    while k + 16 <= line.len() && is_zero(&line[k..k + 16]) {
         k += 16;
     }
-    while k < most {
-        if work[from + wide(k)] != 0 {
-            return k;
-        }
-        k += 1;
-    }
-    k
+    (k + zeros_first(&line[k..])) as u32
 }
 
-// Whether sixteen work numbers from an index on are all 0. The largest of them is asked, so that the loop has no branch.
-fn block_is_zero(work: &[u32], from: usize) -> bool
-    requires { from + 16 ≤ length work.now }
-    ensures { result ≡ true → Zeros work.now from 16 16 }
+// How many numbers at the front are 0.
+fn zeros_first(line: &[u32]) -> usize
+    ensures { FirstZeros line.now result }
 {
-    let mut most = 0;
-    for i in 0..16 {
-        most = larger(most, work[from + i]);
-    }
-    most == 0
+    line.iter().take_while(|&&number| number == 0).count()
+}
+
+// Whether numbers are all 0. The largest of them is asked, so that the loop has no branch.
+fn is_zero(block: &[u32]) -> bool
+    ensures { result ≡ eqb (largest block.now) 0 }
+{
+    block.iter().fold(0, |most, &number| most.max(number)) == 0
 }

@@ -17,8 +17,8 @@ use Rattle.model.specs.Check.{Kind, opens, subtracts, divides, kind_of}
 use Rattle.model.specs.Run as Run
 use Rattle.model.proofs.Within.{within-range}
 use Rattle.state.specs.declared.State.{State}
-use Rattle.state.specs.declared.Stepped.{Stepped}
-use Rattle.state.specs.declared.Stepped.TheVariants.{On}
+use Rattle.state.specs.declared.Fault.{Fault}
+use Rattle.std.specs.Prelude.{Result, Ok}
 use Rattle.state.specs.States.{table_of, state_of, stepped_of, opened, subtracted, divided_by, answered, SoundStep, Sound, Allowed, Ready, WorksOn, works_in}
 
 pub table-named : (t : Table) → table_of (number_of t) ≡ t
@@ -70,7 +70,7 @@ pivot-left k u own in_c on one four seven eight = go (eqb k 9) refl
 
 module _ (A B : List Float) (limit : Float) (c y x : List Float) (z : State) (sound : Sound (length c) (length y) (length x) z) where
   -- r with the tables c', y' and x' is what a record of kind k gives
-  abbrev pub Gives : Kind → ℕ → ℕ → Stepped → List Float → List Float → List Float → Type 0
+  abbrev pub Gives : Kind → ℕ → ℕ → Result State Fault → List Float → List Float → List Float → Type 0
   Gives k p q r c' y' x' = (stepped_of r c' y' x' ≡ Run.step A B limit (state_of z c y x) k p q) × SoundStep (length c) (length y) (length x) r
 
   -- an answer steps as the model's does, if the states after it are the model's
@@ -89,14 +89,14 @@ module _ (A B : List Float) (limit : Float) (c y x : List Float) (z : State) (so
     -- the steps of kinds 1 to 3, 4 to 6, and 7
     pub gives_open : (t : Table) (n : ℕ) (v : Float) (r : State)
         → Run.step A B limit (state_of z c y x) (opens t) p q ≡ Run.going (Run.opened (state_of z c y x) t n (starting A B (state_of z c y x).tables t p))
-        → k ≡ opens t → r ≡ opened z (number_of t) n v → v ≡ starting A B (state_of z c y x).tables t p → Gives k p q (On r) c y x
+        → k ≡ opens t → r ≡ opened z (number_of t) n v → v ≡ starting A B (state_of z c y x).tables t p → Gives k p q (Ok r) c y x
     gives_open t n v r clause e is from =
         rw (e, is) (
           ap₂ (λ u w. Run.going (Run.opened (state_of z c y x) u n w)) (table-named t) from ∙ sym clause,
           record { named = ap number_of (table-named t); in_c = sound.in_c; in_y = sound.in_y; in_x = sound.in_x },
         )
 
-    pub gives_subtract : (t : Table) (u v : Float) (r : Stepped) → k ≡ subtracts t → r ≡ answered (less z.running u v) (subtracted z (vanishes u v))
+    pub gives_subtract : (t : Table) (u v : Float) (r : Result State Fault) → k ≡ subtracts t → r ≡ answered (less z.running u v) (subtracted z (vanishes u v))
         → u ≡ entry (state_of z c y x).tables C p → v ≡ entry (state_of z c y x).tables t q → Gives k p q r c y x
     unfolding Run.step
     gives_subtract t u v r e is left right =
@@ -104,7 +104,7 @@ module _ (A B : List Float) (limit : Float) (c y x : List Float) (z : State) (so
         (answer-gives (less z.running u v) (subtracted z (vanishes u v)) (Run.subtracted (state_of z c y x) (vanishes u v)) (one_more (vanishes u v))
         (λ w. record { named = sound.named; in_c = sound.in_c; in_y = sound.in_y; in_x = sound.in_x }))
 
-    pub gives_divide : (v : Float) (r : Stepped) → k ≡ divides → r ≡ answered (quotient z.running v) (divided_by z) → v ≡ entry (state_of z c y x).tables C p
+    pub gives_divide : (v : Float) (r : Result State Fault) → k ≡ divides → r ≡ answered (quotient z.running v) (divided_by z) → v ≡ entry (state_of z c y x).tables C p
         → Gives k p q r c y x
     unfolding Run.step
     gives_divide v r e is by =

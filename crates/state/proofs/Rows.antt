@@ -15,8 +15,8 @@ use Rattle.model.specs.Check.{Kind, opens, subtracts, divides, closes, kind_of, 
 use Rattle.model.specs.Run as Run
 use Rattle.model.proofs.Passing.{both}
 use Rattle.state.specs.declared.State.{State}
-use Rattle.state.specs.declared.Stepped.{Stepped}
-use Rattle.state.specs.declared.Stepped.TheVariants.{On}
+use Rattle.state.specs.declared.Fault.{Fault}
+use Rattle.std.specs.Prelude.{Result, Ok}
 use Rattle.state.specs.States.{state_of, stepped_of, opened, subtracted, divided_by, settled, answered, Sound, SoundStep}
 use Rattle.state.specs.States.{AllowedInRow, SweepReady, moves_by, MovesStep}
 use Rattle.state.proofs.Tables.{put-set}
@@ -61,16 +61,16 @@ module _ (A B : List Float) (limit : Float) (x : List Float) (z : State) (kind p
   }
 
   -- what a step of a sweep gives: the model's step, a sound state, and whether a row moved
-  abbrev pub GivesRow : Stepped → List Float → Type 0
+  abbrev pub GivesRow : Result State Fault → List Float → Type 0
   GivesRow r x' = (stepped_of r cs ys x' ≡ Run.step A B limit (state_of z cs ys x) (kind_of kind) p q)
       × (SoundStep (length A) (length B) (length x) r × MovesStep limit z (kind_of kind) x r)
 
-  row-sound : (r : Stepped) → SoundStep (length cs) (length ys) (length x) r → SoundStep (length A) (length B) (length x) r
+  row-sound : (r : Result State Fault) → SoundStep (length cs) (length ys) (length x) r → SoundStep (length A) (length B) (length x) r
   row-sound r s =
       subst (λ n. SoundStep n (length B) (length x) r) (length-map A clean)
       (subst (λ n. SoundStep (length cs) n (length x) r) (length-map B clean) s)
 
-  row_gives : (r : Stepped) → Gives A B limit cs ys x z sound (kind_of kind) p q r cs ys x → MovesStep limit z (kind_of kind) x r → GivesRow r x
+  row_gives : (r : Result State Fault) → Gives A B limit cs ys x z sound (kind_of kind) p q r cs ys x → MovesStep limit z (kind_of kind) x r → GivesRow r x
   row_gives r gives moves = (gives.0, (row-sound r gives.1, moves))
 
   -- a record that closes nothing moves nothing
@@ -81,15 +81,15 @@ module _ (A B : List Float) (limit : Float) (x : List Float) (z : State) (kind p
   unmoved-answer zero_divisor f still k none = tt
 
   -- kinds 10, 11, 12 and 8
-  pub row_opens : (v : Float) (r : State) → kind_of kind ≡ opens X → r ≡ opened z 3 p v → v ≡ clean (get_or B (p - 1) plus_zero) → GivesRow (On r) x
+  pub row_opens : (v : Float) (r : State) → kind_of kind ≡ opens X → r ≡ opened z 3 p v → v ≡ clean (get_or B (p - 1) plus_zero) → GivesRow (Ok r) x
   unfolding Run.step starting
   row_opens v r e is from =
       let of = (allowed-row ready e).1 in
       let start = from ∙ read-entry B (p - 1) ∙ entry-y z cs ys x p (omega (arith, of, ready.in_y)) in
-      row_gives (On r) (gives_open A B limit cs ys x z sound (kind_of kind) p q X p v r refl e is start)
+      row_gives (Ok r) (gives_open A B limit cs ys x z sound (kind_of kind) p q X p v r refl e is start)
       (rw (e, is) (sym (or-false z.moved)))
 
-  pub row-subtracts : (u v : Float) (r : Stepped) → kind_of kind ≡ subtracts X → r ≡ answered (less z.running u v) (subtracted z (vanishes u v))
+  pub row-subtracts : (u v : Float) (r : Result State Fault) → kind_of kind ≡ subtracts X → r ≡ answered (less z.running u v) (subtracted z (vanishes u v))
       → u ≡ clean (get_or A (p - 1) plus_zero) → v ≡ get_or x (q - 1) plus_zero → GivesRow r x
   row-subtracts u v r e is left right =
       let of = allowed-row ready e in
@@ -98,7 +98,7 @@ module _ (A B : List Float) (limit : Float) (x : List Float) (z : State) (kind p
       row_gives r (gives_subtract A B limit cs ys x z sound (kind_of kind) p q X u v r e is a b)
       (rw (e, is) (unmoved-answer (less z.running u v) (subtracted z (vanishes u v)) (λ w. sym (or-false z.moved)) (subtracts X) refl))
 
-  pub row-divides : (v : Float) (r : Stepped) → kind_of kind ≡ divides → r ≡ answered (quotient z.running v) (divided_by z)
+  pub row-divides : (v : Float) (r : Result State Fault) → kind_of kind ≡ divides → r ≡ answered (quotient z.running v) (divided_by z)
       → v ≡ clean (get_or A (p - 1) plus_zero) → GivesRow r x
   row-divides v r e is by =
       let of = allowed-row ready e in
@@ -119,7 +119,7 @@ module _ (A B : List Float) (limit : Float) (x : List Float) (z : State) (kind p
   }
 
   pub row_closes : (r : State) (x' : List Float) → kind_of kind ≡ closes
-      → r ≡ settled z (moves_more limit (get_or x (z.target - 1) plus_zero) z.running) → x' ≡ set x (z.target - 1) z.running → GivesRow (On r) x'
+      → r ≡ settled z (moves_more limit (get_or x (z.target - 1) plus_zero) z.running) → x' ≡ set x (z.target - 1) z.running → GivesRow (Ok r) x'
   unfolding Run.step closed put_x
   row_closes r x' e is put_in =
       let of = allowed-row ready e in

@@ -1,5 +1,5 @@
 -- The state with the lent tables as the model's: entries read, and the open target closed.
-use Prim.Native.Nat.{ℕ, suc, ◌+◌, ◌-◌, ◌≤◌, ◌<◌, max}
+use Prim.Native.Nat.{ℕ, ◌+◌, ◌-◌, ◌≤◌, ◌<◌, max}
 use native.Mathlib.Numerals.{add-one}
 use native.Mathlib.Omega.{arith}
 use mathlib.Core.Path.{◌≡◌, refl, sym, ap, subst, ◌∙◌}
@@ -17,9 +17,10 @@ use Rattle.model.proofs.Arith.{less_finite}
 use Rattle.arith.specs.declared.Operation.{Operation}
 use Rattle.arith.specs.Answer.{answer_of, has_vanished}
 use Rattle.state.specs.declared.State.{State}
-use Rattle.state.specs.declared.Stepped.TheVariants.{On}
+use Rattle.std.specs.Prelude.{Ok}
 use Rattle.state.specs.States.{table_of, state_of, answered, Sound, FreeIn, Free, Of}
-use Rattle.state.proofs.Tables.{take-set, drop-set, get_or_last}
+use Rattle.std.proofs.lemmas.List.{drop-set}
+use Rattle.state.proofs.Tables.{take-set, get_or_last}
 
 -- the state after a product, which the operation's case counts
 pub product_is : (r r' : Operation) (acc a b : Float) (f : Bool → Float → State) → r ≡ r' → answer_of r ≡ less acc a b
@@ -27,7 +28,7 @@ pub product_is : (r r' : Operation) (acc a b : Float) (f : Bool → Float → St
 product_is r r' acc a b f e is gone = rw (← e, is) (by (less acc a b) refl)
   where
     by : (o : Answer) → less acc a b ≡ o → answered o (f (has_vanished r)) ≡ answered o (f (vanishes a b))
-    by (number v) h = ap (λ g. On (f g v)) (gone ∙ rw (less_finite acc a b v h))
+    by (number v) h = ap (λ g. Ok (f g v)) (gone ∙ rw (less_finite acc a b v h))
     by overflow h = refl
     by zero_divisor h = refl
 
@@ -95,7 +96,7 @@ module _ (z : State) (c y x : List Float) where
       → state_of (counting z.c z.y (z.x + 1)) c y (set x (length x - (z.x + 1)) z.running) ≡ Run.closing (state_of z c y x)
   unfolding closed put_x
   close_x e h =
-      let from : suc (length x - (z.x + 1)) ≡ length x - z.x = omega arith in
+      let from : length x - (z.x + 1) + 1 ≡ length x - z.x = omega arith in
       let unclosed : ℕ = length x - length (drop (length x - z.x) x) in
       let last : ltb unclosed z.target ≡ false = le-ltb unclosed z.target (omega (arith, length-drop (length x - z.x) x)) in
       rw (e, closed, last, length-set, drop-set x (length x - (z.x + 1)) z.running (omega arith), from)

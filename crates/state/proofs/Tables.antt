@@ -30,12 +30,6 @@ put-set [] i a h = absurd (not-suc-le-zero h)
 put-set (x ∷ l) zero a h = refl
 put-set (x ∷ l) (suc i) a h = ap (λ r. x ∷ r) (put-set l i a (le_of_suc-le-suc h))
 
--- the entry stored at i stands before those from the next one on
-pub drop-set : (l : List Float) (i : ℕ) (a : Float) → i < length l → drop i (set l i a) ≡ a ∷ drop (suc i) l
-drop-set [] i a h = absurd (not-suc-le-zero h)
-drop-set (x ∷ l) zero a h = refl
-drop-set (x ∷ l) (suc i) a h = drop-set l i a (le_of_suc-le-suc h)
-
 -- what stands past the end does not matter within it
 pub get_or-within : (l : List Float) (i : ℕ) (a b : Float) → i < length l → get_or l i a ≡ get_or l i b
 get_or-within [] i a b h = absurd (not-suc-le-zero h)

@@ -1,5 +1,5 @@
 -- The state of a run with the lent tables as the model's state, and what a step may rely on. Definitions only.
-use Rattle.std.specs.Prelude.{ℕ, suc, ◌+◌, ◌-◌, ◌≤◌, ◌<◌, ◌≡◌, Bool, true, false, cond, ◌||◌, List, eqb, length, take, drop, get_or, Float}
+use Rattle.std.specs.Prelude.{ℕ, suc, ◌+◌, ◌-◌, ◌≤◌, ◌<◌, ◌≡◌, Bool, true, false, cond, ◌||◌, List, eqb, length, take, drop, get_or, Float, Result, Ok, Err}
 use Rattle.model.specs.Label.{within}
 use Rattle.model.specs.Arith.{plus_zero, Answer, number, overflow, zero_divisor}
 use Rattle.model.specs.Formula.{Table, C, Y, X, number_of}
@@ -7,8 +7,8 @@ use Rattle.model.specs.Sweep.{moves_more}
 use Rattle.model.specs.Check.{Kind, opens, subtracts, divides, closes, closes_pivot, none, kind_of, belongs}
 use Rattle.model.specs.Run as Run
 use Rattle.state.specs.declared.State.{State}
-use Rattle.state.specs.declared.Stepped.{Stepped}
-use Rattle.state.specs.declared.Stepped.TheVariants.{On, Stop}
+use Rattle.state.specs.declared.Fault.{Fault}
+use Rattle.state.specs.declared.Fault.TheVariants.{Overflow, ZeroDivisor}
 
 -- the table of a number, 1, 2 or 3
 abbrev pub table_of : ℕ → Table
@@ -26,9 +26,14 @@ state_of z c y x = record {
   vanished = z.vanished;
 }
 
-abbrev pub stepped_of : Stepped → List Float → List Float → List Float → Run.Stepped
-stepped_of (On z) c y x = Run.going (state_of z c y x)
-stepped_of (Stop r) c y x = Run.stop r
+-- the number of a fault, as the documents have it
+abbrev pub number_of_fault : Fault → ℕ
+number_of_fault Overflow = 16
+number_of_fault ZeroDivisor = 17
+
+abbrev pub stepped_of : Result State Fault → List Float → List Float → List Float → Run.Stepped
+stepped_of (Ok z) c y x = Run.going (state_of z c y x)
+stepped_of (Err f) c y x = Run.stop (number_of_fault f)
 
 -- the state before the first record
 abbrev pub unopened : State
@@ -130,10 +135,10 @@ abbrev pub unmoved : State → State
 unmoved z = moved_so z false
 
 -- an operation's answer as a step
-abbrev pub answered : Answer → (Float → State) → Stepped
-answered (number v) f = On (f v)
-answered overflow f = Stop 16
-answered zero_divisor f = Stop 17
+abbrev pub answered : Answer → (Float → State) → Result State Fault
+answered (number v) f = Ok (f v)
+answered overflow f = Err Overflow
+answered zero_divisor f = Err ZeroDivisor
 
 -- the open target has one of the tables' numbers, and no more is closed than C, Y and X have entries
 pub record Sound (lc ly lx : ℕ) (z : State) : Type 0 where
@@ -142,9 +147,9 @@ pub record Sound (lc ly lx : ℕ) (z : State) : Type 0 where
   pub in_y : z.y ≤ ly
   pub in_x : z.x ≤ lx
 
-abbrev pub SoundStep : ℕ → ℕ → ℕ → Stepped → Type 0
-SoundStep lc ly lx (On z) = Sound lc ly lx z
-SoundStep lc ly lx (Stop r) = Unit {0}
+abbrev pub SoundStep : ℕ → ℕ → ℕ → Result State Fault → Type 0
+SoundStep lc ly lx (Ok z) = Sound lc ly lx z
+SoundStep lc ly lx (Err f) = Unit {0}
 
 -- the open target may be closed: of C one of the slots, at most one above the highest closed; of Y there is one that is not closed; of X it is the last
 -- one that is not
@@ -238,6 +243,6 @@ moves_by limit z closes x = moves_more limit (get_or x (z.target - 1) plus_zero)
 moves_by limit z closes_pivot x = false
 moves_by limit z none x = false
 
-abbrev pub MovesStep : Float → State → Kind → List Float → Stepped → Type 0
-MovesStep limit z k x (On z') = z'.moved ≡ (z.moved || moves_by limit z k x)
-MovesStep limit z k x (Stop r) = Unit {0}
+abbrev pub MovesStep : Float → State → Kind → List Float → Result State Fault → Type 0
+MovesStep limit z k x (Ok z') = z'.moved ≡ (z.moved || moves_by limit z k x)
+MovesStep limit z k x (Err f) = Unit {0}

@@ -15,6 +15,7 @@ use numbers::wide;
 
 // The running number, the table and number of its target, how many entries of C, Y and X are closed (of C those from 1 up to the highest
 // closed), the products and quotients made, how many of the products vanished, and whether a row of this sweep moved by more than the limit.
+// Kept: the table by its number: document 01's form (`table: u32` in tests/forms.sh), and the C interface tells it so.
 #[derive(Clone, Copy)]
 pub struct State {
     pub running: f64,
@@ -29,11 +30,11 @@ pub struct State {
     pub moved: bool,
 }
 
-// What a record leads to: the state after it, or the number of its refusal.
+// What stops a run at a record: 16, or 17.
 #[derive(Clone, Copy)]
-pub enum Stepped {
-    On(State),
-    Stop(u32),
+pub enum Fault {
+    Overflow,
+    ZeroDivisor,
 }
 
 impl State {
@@ -48,7 +49,7 @@ impl State {
     }
 
     // The running number less a product, which is counted apart where it vanishes.
-    fn subtract(mut self, a: f64, b: f64) -> Stepped
+    fn subtract(mut self, a: f64, b: f64) -> Result<State, Fault>
         requires { (self.products < most_made) × (self.vanished ≤ self.products) }
         ensures { result ≡ answered (less self.running a b) (subtracted self (vanishes a b)) }
     {
@@ -56,21 +57,21 @@ impl State {
             Operation::Number(value) => {
                 self.running = value;
                 self.products += 1;
-                Stepped::On(self)
+                Ok(self)
             }
             Operation::Vanished(value) => {
                 self.running = value;
                 self.products += 1;
                 self.vanished += 1;
-                Stepped::On(self)
+                Ok(self)
             }
-            Operation::Overflow => Stepped::Stop(16),
-            Operation::ZeroDivisor => Stepped::Stop(17),
+            Operation::Overflow => Err(Fault::Overflow),
+            Operation::ZeroDivisor => Err(Fault::ZeroDivisor),
         }
     }
 
     // The running number over a divisor.
-    fn divide(mut self, by: f64) -> Stepped
+    fn divide(mut self, by: f64) -> Result<State, Fault>
         requires { self.quotients < most_made }
         ensures { result ≡ answered (quotient self.running by) (divided_by self) }
     {
@@ -78,10 +79,10 @@ impl State {
             Operation::Number(value) | Operation::Vanished(value) => {
                 self.running = value;
                 self.quotients += 1;
-                Stepped::On(self)
+                Ok(self)
             }
-            Operation::Overflow => Stepped::Stop(16),
-            Operation::ZeroDivisor => Stepped::Stop(17),
+            Operation::Overflow => Err(Fault::Overflow),
+            Operation::ZeroDivisor => Err(Fault::ZeroDivisor),
         }
     }
 
@@ -93,8 +94,7 @@ impl State {
             ≡ Run.closing (state_of self c.old y.old x.old) }
         ensures sound { Sound (length c.old) (length y.old) (length x.old) result }
     {
-        let table = self.table;
-        match table {
+        match self.table {
             1 => {
                 let at = wide(self.target) - 1;
                 c[at] = self.running;
@@ -163,6 +163,8 @@ fn coefficient(a: &[f64], p: u32) -> f64
 }
 
 // One record. A pivot l, at kind 9, is refused where -limit <= l <= limit.
+// Kept: the kind by its number: a word may hold any, so an enum would be made by a match on it and taken apart by this one, no plainer.
+#[inline(always)]
 pub fn step(
     z: State,
     kind: u32,
@@ -174,34 +176,33 @@ pub fn step(
     c: &mut [f64],
     y: &mut [f64],
     x: &mut [f64],
-) -> Stepped
+) -> Result<State, Fault>
     requires { Ready (length a.now) (length b.now) (length c.old) (length y.old) (length x.old) z kind p q }
     ensures x_after { stepped_of result c.new y.new x.new
         ≡ Run.step a.now b.now limit (state_of z c.old y.old x.old) (kind_of kind) p q }
     ensures sound_step { SoundStep (length c.old) (length y.old) (length x.old) result }
 {
     match kind {
-        1 => Stepped::On(z.open(1, q, coefficient(a, p))),
-        2 => Stepped::On(z.open(2, p, arith::read(entry(b, p)))),
-        3 => Stepped::On(z.open(3, p, entry(y, p))),
+        1 => Ok(z.open(1, q, coefficient(a, p))),
+        2 => Ok(z.open(2, p, arith::read(entry(b, p)))),
+        3 => Ok(z.open(3, p, entry(y, p))),
         4 => z.subtract(entry(c, p), entry(c, q)),
         5 => z.subtract(entry(c, p), entry(y, q)),
         6 => z.subtract(entry(c, p), entry(x, q)),
         7 => z.divide(entry(c, p)),
-        8 => Stepped::On(z.close(c, y, x)),
+        8 => Ok(z.close(c, y, x)),
         9 => {
             if arith::is_small(limit, z.running) {
-                Stepped::Stop(17)
+                Err(Fault::ZeroDivisor)
             } else {
-                Stepped::On(z.close(c, y, x))
+                Ok(z.close(c, y, x))
             }
         }
-        _ => Stepped::On(z),
+        _ => Ok(z),
     }
 }
 
-// One record on a target in C, with no Y and X lent: kinds 1, 4, 7, 8 and 9 as `step` has them. It is a function of its own because a run is fast
-// with `step` compiled into its loop, which is done with a function that is called from one place.
+// One record on a target in C, with no Y and X lent.
 pub fn step_in_c(
     z: State,
     kind: u32,
@@ -210,29 +211,17 @@ pub fn step_in_c(
     a: &[f64],
     limit: f64,
     c: &mut [f64],
-) -> Stepped
+) -> Result<State, Fault>
     requires { ReadyInC (length a.now) (length c.old) z kind p q }
     ensures c_after { stepped_of result c.new [] []
         ≡ Run.step a.now [] limit (state_of z c.old [] []) (kind_of kind) p q }
     ensures sound_step { SoundStep (length c.old) 0 0 result }
 {
-    match kind {
-        1 => Stepped::On(z.open(1, q, coefficient(a, p))),
-        4 => z.subtract(entry(c, p), entry(c, q)),
-        7 => z.divide(entry(c, p)),
-        8 => Stepped::On(z.close(c, &mut [], &mut [])),
-        _ => {
-            let small = arith::is_small(limit, z.running);
-            if small {
-                Stepped::Stop(17)
-            } else {
-                Stepped::On(z.close(c, &mut [], &mut []))
-            }
-        }
-    }
+    step(z, kind, p, q, a, &[], limit, c, &mut [], &mut [])
 }
 
 // One record of a sweep: kinds 10, 11 and 12 do what 3, 6 and 7 do, with A in C's place and B in Y's, and 8 closes the row.
+// Kept: slices one by one: a struct that holds a &mut would need a clause in each contract that it is still the same, no plainer.
 pub fn sweep_step(
     z: State,
     kind: u32,
@@ -242,7 +231,7 @@ pub fn sweep_step(
     b: &[f64],
     limit: f64,
     x: &mut [f64],
-) -> Stepped
+) -> Result<State, Fault>
     requires { SweepReady (length a.now) (length b.now) (length x.old) z kind p q }
     ensures x_after { stepped_of result (map clean a.now) (map clean b.now) x.new
         ≡ Run.step a.now b.now limit
@@ -251,10 +240,10 @@ pub fn sweep_step(
     ensures moves_step { MovesStep limit z (kind_of kind) x.old result }
 {
     match kind {
-        10 => Stepped::On(z.open(3, p, arith::read(entry(b, p)))),
+        10 => Ok(z.open(3, p, arith::read(entry(b, p)))),
         11 => z.subtract(arith::read(entry(a, p)), entry(x, q)),
         12 => z.divide(arith::read(entry(a, p))),
-        _ => Stepped::On(z.settle(limit, x)),
+        _ => Ok(z.settle(limit, x)),
     }
 }
 
@@ -280,9 +269,10 @@ pub fn fresh() -> State
 pub fn loaded(coefficients: usize, rows: usize) -> State
     ensures { result ≡ whole coefficients rows }
 {
-    let mut z = fresh();
-    z.c = coefficients;
-    z.y = rows;
-    z.x = rows;
-    z
+    State {
+        c: coefficients,
+        y: rows,
+        x: rows,
+        ..fresh()
+    }
 }

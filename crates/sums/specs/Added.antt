@@ -1,5 +1,5 @@
 -- A row of 64-bit words as one number, changed by another. Definitions only.
-use Rattle.std.specs.Prelude.{◌≡◌, ℕ, ◌+◌, ◌-◌, ◌*◌, ◌^◌, Bool, true, false, cond, List, length}
+use Rattle.std.specs.Prelude.{◌≡◌, ℕ, ◌+◌, ◌*◌, ◌^◌, Bool, true, false, List, length}
 use Rattle.model.specs.Residual.{joined64}
 
 -- the words of before, n more, are those of after, but for what runs over their end
@@ -21,7 +21,3 @@ Carrying true before n after carry = before + carry ≡ after + n
 -- a number of three words, the lowest of them at an index of a row
 abbrev pub three_at : ℕ → ℕ → ℕ → ℕ → ℕ
 three_at at low middle high = low * 2 ^ (64 * at) + middle * 2 ^ (64 * (at + 1)) + high * 2 ^ (64 * (at + 2))
-
--- a word of 64 bits or, minus, all its bits inverted
-abbrev pub inverted : Bool → ℕ → ℕ
-inverted minus word = cond minus (2 ^ 64 - 1 - word) word

@@ -6,7 +6,7 @@ ghost use Rattle.model.specs.Text.{fed, joining};
 ghost use Rattle.model.specs.Text as Text;
 ghost use Rattle.text.specs.Readings.{stage_of, text_of, scanned_of, is_faulty, Kept, Untouched, Counted, Standing};
 
-use numbers::shorter;
+use refusal::Refusal;
 
 // Where reading stands: between numbers; in one, with the position of its first digit and its value so far; or at the first fault.
 #[derive(Clone, Copy)]
@@ -16,7 +16,8 @@ pub enum Stage {
     Faulty { at: u64 },
 }
 
-// The position of the next byte, how many numbers have ended, and the stage. The numbers stand in the slice lent with each call.
+// The position of the next byte, how many numbers have ended, and the stage.
+// Kept: the numbers stand in a slice lent with each call, with their count here: a rule of the project (no heap, fixed memory).
 #[derive(Clone, Copy)]
 pub struct Reading {
     position: u64,
@@ -24,11 +25,11 @@ pub struct Reading {
     stage: Stage,
 }
 
-// What the input says: N, which is the first number, and how many labels follow it; or the position of the first fault.
+// What an input without a fault says: N, which is the first number, and how many labels follow it.
 #[derive(Clone, Copy)]
-pub enum Scanned {
-    Numbers { order: u32, labels: usize },
-    BadAt(u64),
+pub struct Listed {
+    pub order: u32,
+    pub labels: usize,
 }
 
 // Before the first byte.
@@ -43,17 +44,14 @@ pub fn blank() -> Reading
 }
 
 // The bytes of a piece of the input, one after another.
-pub fn feed(reading: Reading, bytes: &[u8], numbers: &mut [u32]) -> Reading
+pub fn feed(mut reading: Reading, bytes: &[u8], numbers: &mut [u32]) -> Reading
     ensures numbers_after { text_of result numbers.new ≡ fed (length numbers.old) (text_of reading numbers.old) bytes.now }
     ensures kept { Kept reading.count result.count numbers.old numbers.new }
 {
-    let mut reached = reading;
-    let mut i = 0;
-    while i < bytes.len() {
-        reached = reached.step(bytes[i], numbers);
-        i += 1;
+    for &byte in bytes {
+        reading = reading.step(byte, numbers);
     }
-    reached
+    reading
 }
 
 impl Reading {
@@ -63,29 +61,23 @@ impl Reading {
         ensures kept { Kept self.count result.count numbers.old numbers.new }
     {
         let at = self.position;
-        let count = self.count;
-        let stage = self.stage;
-        match stage {
-            Stage::Faulty { at: _ } => self,
+        match self.stage {
+            Stage::Faulty { .. } => self,
             Stage::Between => Reading {
-                position: onward(at),
-                count,
-                stage: begun(count < numbers.len(), at, byte),
+                position: at.saturating_add(1),
+                stage: begun(self.count < numbers.len(), at, byte),
+                ..self
             },
             Stage::Within { start, value } => {
-                let after = continued(at, start, value, byte);
-                if is_gap(byte) {
-                    let more = join(count, value, numbers);
-                    return Reading {
-                        position: onward(at),
-                        count: more,
-                        stage: after,
-                    };
-                }
+                let count = if is_gap(byte) {
+                    join(self.count, value, numbers)
+                } else {
+                    self.count
+                };
                 Reading {
-                    position: onward(at),
+                    position: at.saturating_add(1),
                     count,
-                    stage: after,
+                    stage: continued(at, start, value, byte),
                 }
             }
         }
@@ -95,46 +87,35 @@ impl Reading {
     pub fn is_faulty(self) -> bool
         ensures { result ≡ is_faulty (stage_of self.stage) }
     {
-        let stage = self.stage;
-        match stage {
-            Stage::Faulty { at: _ } => true,
-            Stage::Between => false,
-            Stage::Within { start: _, value: _ } => false,
-        }
+        matches!(self.stage, Stage::Faulty { .. })
     }
 
     // The end of the input, with which a number that is being read ends.
-    pub fn ended(self, numbers: &mut [u32]) -> Scanned
+    pub fn ended(self, numbers: &mut [u32]) -> Result<Listed, Refusal>
         ensures numbers_after { scanned_of result numbers.new ≡ Text.ended (length numbers.old) (text_of self numbers.old) }
         ensures standing { Standing result (length numbers.new) }
         ensures untouched { Untouched result numbers.old numbers.new }
     {
-        let position = self.position;
-        let count = self.count;
-        let stage = self.stage;
-        match stage {
-            Stage::Faulty { at } => Scanned::BadAt(at),
-            Stage::Between => named(position, count, numbers),
-            Stage::Within { start: _, value } => {
-                let more = join(count, value, numbers);
-                named(position, more, numbers)
-            }
-        }
+        let count = match self.stage {
+            Stage::Faulty { at } => return Err(Refusal::ListingText { position: at }),
+            Stage::Between => self.count,
+            Stage::Within { value, .. } => join(self.count, value, numbers),
+        };
+        named(self.position, count, numbers)
     }
 }
 
 // The numbers that were read before a position: N and the labels, or a fault there if there is none.
-fn named(position: u64, count: usize, numbers: &[u32]) -> Scanned
+fn named(position: u64, count: usize, numbers: &[u32]) -> Result<Listed, Refusal>
     ensures numbers_value { scanned_of result numbers.now ≡ Text.named position (take count numbers.now) }
     ensures counted { Counted result count (length numbers.now) }
 {
-    let standing = shorter(count, numbers.len());
-    if standing == 0 {
-        return Scanned::BadAt(position);
-    }
-    Scanned::Numbers {
-        order: numbers[0],
-        labels: standing - 1,
+    match &numbers[..count.min(numbers.len())] {
+        [] => Err(Refusal::ListingText { position }),
+        [order, labels @ ..] => Ok(Listed {
+            order: *order,
+            labels: labels.len(),
+        }),
     }
 }
 
@@ -150,26 +131,14 @@ fn join(count: usize, value: u32, numbers: &mut [u32]) -> usize
     count + 1
 }
 
-// The position after a byte's.
-fn onward(at: u64) -> u64
-    ensures { result ≡ Text.onward at }
-{
-    if at < u64::MAX { at + 1 } else { at }
-}
-
 // The stage after a byte where no number is being read: a digit begins one, if there is room for it.
 fn begun(room: bool, at: u64, byte: u8) -> Stage
     ensures { stage_of result ≡ Text.begun room at byte }
 {
-    if !is_digit(byte) {
-        return parted(at, byte);
-    }
-    if !room {
-        return Stage::Faulty { at };
-    }
-    Stage::Within {
-        start: at,
-        value: digit(byte) as u32,
+    match char::from(byte).to_digit(10) {
+        Some(value) if room => Stage::Within { start: at, value },
+        Some(_) => Stage::Faulty { at },
+        None => parted(at, byte),
     }
 }
 
@@ -177,16 +146,12 @@ fn begun(room: bool, at: u64, byte: u8) -> Stage
 fn continued(at: u64, start: u64, value: u32, byte: u8) -> Stage
     ensures { stage_of result ≡ Text.continued at start value byte }
 {
-    if !is_digit(byte) {
+    let Some(digit) = char::from(byte).to_digit(10) else {
         return parted(at, byte);
-    }
-    let grown = 10 * (value as u64) + digit(byte);
-    if 4_294_967_295 < grown {
-        return Stage::Faulty { at: start };
-    }
-    Stage::Within {
-        start,
-        value: grown as u32,
+    };
+    match u32::try_from(10 * u64::from(value) + u64::from(digit)) {
+        Ok(value) => Stage::Within { start, value },
+        Err(_) => Stage::Faulty { at: start },
     }
 }
 
@@ -201,23 +166,9 @@ fn parted(at: u64, byte: u8) -> Stage
     }
 }
 
-// The value of a digit's byte.
-fn digit(byte: u8) -> u64
-    requires { Text.is_digit byte ≡ true }
-    ensures { (result ≡ byte - 48) × (result ≤ 9) }
-{
-    (byte - 48) as u64
-}
-
-fn is_digit(byte: u8) -> bool
-    ensures { result ≡ Text.is_digit byte }
-{
-    48 <= byte && byte <= 57
-}
-
 // A space or a line feed.
 fn is_gap(byte: u8) -> bool
     ensures { result ≡ Text.is_gap byte }
 {
-    byte == 32 || byte == 10
+    matches!(byte, b' ' | b'\n')
 }

@@ -5,11 +5,10 @@ use native.Mathlib.Numerals.{add-one}
 use native.Mathlib.Decide.{dec_le}
 use native.Mathlib.Omega.{arith}
 use mathlib.Core.Path.{◌≡◌, refl, sym, ap, ◌∙◌}
-use mathlib.Core.Bool.{Bool, true, false, cond, and-false}
+use mathlib.Core.Bool.{Bool, true, false, cond}
 use mathlib.Core.List.{List, []}
 use mathlib.Core.Logic.{inl, inr}
-use borrow.Author.Tests.{lt-ltb, le-ltb, eq-eqb, ne_eqb}
-use lib.Dec.{ltb}
+use borrow.Author.Tests.{lt-ltb}
 use lib.ListN.{length, get_or}
 use Rattle.model.specs.Label.{label}
 use Rattle.model.specs.Fill.{Plan, position}
@@ -25,18 +24,6 @@ use Rattle.slots.proofs.Here.{line-inside, line-next}
 use Rattle.writer.specs.declared.Cursor.{Cursor}
 use Rattle.writer.proofs.Written.{Parts, product-left_out}
 use Rattle.writer.proofs.Products.{Rising, rising_starts, rising-room, rising-more, rising-over, rising-ends}
-
--- ---- the plan's next label
-
-module _ (L : Plan) (p q k : ℕ) (same : q ≡ p) where
-  pub position_here : q < length L → get_or L q 0 ≡ k → p + 1 ≡ cond (is_next L p k) (suc p) 0
-  position_here inside e = rw (add-one, ← same, lt-ltb q (length L) inside, eq-eqb (get_or L q 0) k e)
-
-  pub position-other : (get_or L q 0 ≡ k → ⊥) → 0 ≡ cond (is_next L p k) (suc p) 0
-  position-other e = rw (← same, ne_eqb (get_or L q 0) k e, and-false (ltb q (length L)))
-
-  pub position_past : length L ≤ q → 0 ≡ cond (is_next L p k) (suc p) 0
-  position_past past = rw (← same, le-ltb q (length L) past)
 
 -- ---- the work number at index q
 

@@ -95,13 +95,13 @@ pub record Rising (f : ℕ → List Record) (a o k₀ m : ℕ) (ws₀ : List ℕ
   pub writing : Writing o k₀ (joined (rising f a (m - a))) ws₀ k (joined (rising f h (m - h))) ws
 
 module _ {f : ℕ → List Record} {o k₀ m : ℕ} {ws₀ : List ℕ} where
-  pub rising-skips : (from : ℕ) → NoneBelow f from m → Room o k₀ (up_to f m) ws₀ → Rising f 1 o k₀ m ws₀ k₀ (max 1 from) ws₀
+  pub rising-skips : (from : ℕ) → NoneBelow f from m → Room o k₀ (up_to f m) ws₀ → Rising f 1 o k₀ m ws₀ k₀ (max from 1) ws₀
   rising-skips from none room =
-      let start : 1 + (max 1 from - 1) ≡ max 1 from = omega arith in
+      let start : 1 + (max from 1 - 1) ≡ max from 1 = omega arith in
       record {
         low = omega arith;
         writing = writing_more (writing_starts room) wrote_none
-            (rw start at (skipped f 1 (max 1 from - 1) m (λ k low high below. none k low (omega arith) below)));
+            (rw start at (skipped f 1 (max from 1 - 1) m (λ k low high below. none k low (omega arith) below)));
       }
 
 module _ {f : ℕ → List Record} {a o k₀ m : ℕ} {ws₀ : List ℕ} where

@@ -2,13 +2,14 @@
 use Prim.Native.Nat.{ℕ, suc, ◌+◌, ◌-◌, ◌*◌, ◌≤◌, ◌<◌}
 use native.Mathlib.Numerals.{add-one}
 use native.Mathlib.Nat.{mul-le-mul}
+use native.Mathlib.Decide.{dec_le}
 use native.Mathlib.Omega.{arith}
 use mathlib.Core.Path.{◌≡◌, sym, ap, ap₂, ◌∙◌}
 use mathlib.Core.Bool.{false, not, ◌&&◌}
 use mathlib.Core.List.{List, ◌++◌, map}
 use lib.Dec.{eqb, ltb}
-use lib.ListN.{length, get_or, drop}
-use lib.Seq.{get_or-take}
+use lib.ListN.{length, get_or, take, drop, length-take}
+use lib.Seq.{get_or-take, get_or-drop}
 use borrow.Author.Tests.{eq-eqb, ne_eqb}
 use Rattle.model.specs.Lists.{rising, joined}
 use Rattle.model.specs.Label.{label}
@@ -18,14 +19,16 @@ use Rattle.model.specs.Program.{records_of, program}
 use Rattle.model.specs.Sweep.{row_formula, row_formulas, planned_rows, sweep_record, sweep_records, compiled_sweep, bare_from, bare}
 use Rattle.model.specs.Compile.{sweep, records_by}
 use Rattle.model.proofs.Lists.{map-rising, map-joined, rising_agree, rising-each}
-use Rattle.model.proofs.Labels.{Inside, label-first, label-range, label_right, label_in_row, next-pivot}
+use Rattle.model.proofs.Labels.{Inside, label-first, label-range, label_in_row, next-pivot}
 use Rattle.model.proofs.Within.{within-range}
 use Rattle.model.proofs.Plans.{plan-length}
 use Rattle.model.proofs.WorkNumbers.{position-number}
 use Rattle.model.proofs.SweepCounts.{planned_row, sweep-records}
-use Rattle.writer.specs.Worked.{number_at, kept_at, Covers}
+use Rattle.writer.specs.Written.{product_of}
+use Rattle.writer.specs.Worked.{number_at, kept_at, product_at, Covers}
 use Rattle.writer.specs.Sweep.{Positions, Planned, row_at, row_records}
 use Rattle.writer.proofs.Agree.{kept_agree, pair}
+use Rattle.writer.proofs.Products.{Stands, stands, product_at_is}
 use Rattle.writer.proofs.Whole.{Counted}
 
 -- ---- the positions
@@ -93,13 +96,31 @@ module _ {n : ℕ} {work : List ℕ} {r at : ℕ} (d : Diagonal n work r at) (co
         rw on (rw (more, ne_eqb (position L (label n r r)) 0 (λ none. some (there L positions ∙ none))) at (d.passed L positions));
   })
 
--- ---- the labels right of the diagonal
+-- ---- the places right of the diagonal
 
-pub label_right_of : (n r x s : ℕ) → x ≡ label n r r → s ≡ n - r → Inside n r r → x + s + 1 ≡ label n r (r + 1)
-label_right_of n r x s e f inside = rw (add-one r) (omega (arith, label_in_row n r (suc r) inside.row_low inside.row-high (omega arith)))
+-- x is the label of the diagonal: the row's numbers right of it stand among the work numbers, from a on, each with its column
+module _ {n : ℕ} {work : List ℕ} {r x : ℕ} (covers : Covers n work) (diagonal : Stands n work r r x) (inside : Inside n r r) where
+  pub right-part : x + (n - r) + (n - r) ≤ length work
+  right-part = elim (dec_le n r) [
+    | yes none ↦ omega (arith, diagonal.high)
+    | no some ↦ omega (
+      arith,
+      covers.long,
+      diagonal.is,
+      label-range n r n (omega arith),
+      label_in_row n r n inside.row_low inside.row-high (omega arith),
+    )
+  ]
 
-pub label-onward : (n r j x : ℕ) → x ≡ label n r j → r < j → x + 1 ≡ label n r (j + 1)
-label-onward n r j x e above = rw (add-one j) (omega (arith, label_right n r j above))
+  pub right-product : {a b h : ℕ} → a ≡ x + (n - r) → b ≡ a + (n - r) → h < length (take (b - a) (drop a work))
+      → product_at n work 11 r (r + 1 + h) ≡ product_of 11 (get_or (take (b - a) (drop a work)) h 0) (r + 1 + h)
+  right-product {a} {b} {h} start end below =
+      let long = length-take (b - a) (drop a work) in
+      let there : a + h + 1 ≡ label n r (r + 1 + h) =
+      omega (arith, diagonal.is, label_in_row n r (r + 1 + h) inside.row_low inside.row-high (omega arith)) in
+      let back : a + h + 1 - 1 ≡ a + h = omega arith in
+      rw (get_or-take (b - a) (drop a work) h 0 (omega arith), get_or-drop a work h 0)
+      (rw back at (product_at_is 11 (stands covers (omega arith) there)))
 
 -- ---- all rows
 

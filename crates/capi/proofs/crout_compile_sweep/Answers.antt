@@ -1,9 +1,16 @@
 -- `capi::crout_compile_sweep` gives the number and the numbers of what the sweep's compiler answers: a refusal's detail is small, so the number fits 64 bits.
 use native.Mathlib.Omega.{arith}
-use Rattle.model.specs.Compile.{sweep}
+use mathlib.Core.Path.{◌∙◌}
+use Rattle.answers.proofs.Numbers.{compiled-fits, compiled_told}
 use Rattle.model.proofs.Small.{compiles_small}
-use Rattle.answers.proofs.Numbers.{compiled-fits}
+use Rattle.model.specs.Compile.{sweep}
 use Rattle.capi.proofs.crout_compile_sweep.Goals as goal
 
-pub compile_answer-requires : goal.compile_answer-requires
-compile_answer-requires c = compiled-fits c.compile_sweep.ensures.answer (compiles_small sweep _ _ _ _) (omega arith)
+pub told_answer-requires : goal.told_answer-requires
+told_answer-requires c = compiled-fits c.compile.result c.compile.ensures.answer (compiles_small sweep _ _ _ _) (omega arith)
+
+pub returns-clause-answer : goal.returns-clause-answer
+returns-clause-answer c = c.told_answer.ensures.number ∙ (compiled_told c.compile.result c.compile.ensures.answer).0
+
+pub returns-clause-numbers : goal.returns-clause-numbers
+returns-clause-numbers c = c.told_answer.ensures.numbers ∙ (compiled_told c.compile.result c.compile.ensures.answer).1

@@ -1,24 +1,23 @@
 -- `capi::crout_place` is the place's number: row and column are at most 600, so it fits.
-use mathlib.Core.Path.{sym, ap, subst}
-use native.Mathlib.Omega.{arith}
-use Rattle.model.specs.Label.{at}
+use Rattle.std.proofs.Common.{ℕ, ◌≤◌, ◌≡◌, sym, ap, subst, arith}
+use Rattle.model.specs.Label.{at, sought}
 use Rattle.model.specs.Boundary.{sought_number, place_number}
 use Rattle.labels.proofs.Range.{Small, sought_small}
 use Rattle.capi.proofs.crout_place.Goals as goal
 
-small : (c : goal.In-At) → Small (at (c.in-At.i, c.in-At.j))
-small c = subst Small (sym c.in-At.ensures) (sought_small _ _)
+small : (n label : ℕ) {row column : ℕ} → at (row, column) ≡ sought n label → (row ≤ 600) × (column ≤ 600)
+small n label e = subst Small (sym e) (sought_small n label)
 
 pub overflow_mul-result : goal.overflow_mul-result
-overflow_mul-result c = omega (arith, small c)
+overflow_mul-result c = omega (arith, small _ _ c.in-Some.ensures)
 
 pub overflow_add-result : goal.overflow_add-result
-overflow_add-result c = omega (arith, small c)
+overflow_add-result c = omega (arith, small _ _ c.in-Some.ensures)
 
-pub returns-in-At : goal.returns-in-At
+pub returns-in-Some : goal.returns-in-Some
 unfolding place_number
-returns-in-At c = ap sought_number c.in-At.ensures
+returns-in-Some c = ap sought_number c.in-Some.ensures
 
-pub returns-in-Outside : goal.returns-in-Outside
+pub returns-in-None : goal.returns-in-None
 unfolding place_number
-returns-in-Outside c = ap sought_number c.in-Outside.ensures
+returns-in-None c = ap sought_number c.in-None.ensures

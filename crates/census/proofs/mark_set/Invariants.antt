@@ -1,14 +1,10 @@
 -- The digits are written lowest first. The loop's invariant: the first k are written, and what is left of the number has the others.
-use Rattle.std.proofs.Common.{◌-◌, ◌/◌, ◌^◌, ◌≤◌, ◌≡◌, length, take}
+use Rattle.std.proofs.Common.{◌/◌, ◌^◌, ◌≡◌, take}
 use Rattle.model.proofs.Sets.{digits}
 use Rattle.census.proofs.mark_set.Given as goal
 
-abbrev pub invariant-loop-k : goal.invariant-loop-k
-invariant-loop-k l = record {
-  within : l.k ≤ length l.work;
-  left : l.left ≡ l.set / 2 ^ l.k;
-  written : take l.k l.work ≡ digits l.set l.k;
+abbrev pub invariant-loop-w : goal.invariant-loop-w
+invariant-loop-w l = record {
+  left : l.set ≡ l.fn.set / 2 ^ l.w-index;
+  written : take l.w-index l.work ≡ digits l.fn.set l.w-index;
 }
-
-abbrev pub decreases-loop-k : goal.decreases-loop-k
-decreases-loop-k l = length l.work - l.k

@@ -1,25 +1,20 @@
 -- The invariant of `compare_formula`'s loop holds, and gives what it ensures.
-use Prim.Native.Nat.{◌<◌}
 use native.Mathlib.Omega.{arith}
-use Rattle.copies.proofs.Chained.{next-read, turned_short, turned_on, going-ends, going-over}
+use Rattle.copies.proofs.Chained.{next-read, turned_short, turned_over, turned_on, going-ends}
 use Rattle.copies.proofs.compare_formula.Goals as goal
-use Rattle.copies.proofs.compare_formula.Goals.{then-next-eq0, else-next-eq0}
 
 pub is_same-requires : goal.is_same-requires
-is_same-requires c = (next-read c.loop-z.invariant.on _ c.wide-next.ensures c.if-next-eq0.false, omega arith)
+is_same-requires c = (next-read c.loop-i.invariant.on _ c.wide-k.ensures c.if-k-eq0.false, omega arith)
 
-pub loop-z-preserved : goal.loop-z-preserved
-loop-z-preserved c =
-    let below : c.loop-z.i < c.args.count = omega arith in
-    let turned-short = turned_short c.loop-z.invariant c.loop-z-test.true below _ c.wide-next.ensures in
-    let turned-on = turned_on c.loop-z.invariant c.loop-z-test.true below _ c.wide-next.ensures in
-    elim c.if-next-eq0.branch [
-      | then-next-eq0 w ↦ rw w.z-is (turned-short w.if-next-eq0.true)
-      | else-next-eq0 w ↦ rw w.z-is (turned-on w.if-next-eq0.false _ w.is_same.ensures)
-    ]
+pub loop-i-preserved : goal.loop-i-preserved
+loop-i-preserved c = turned_on c.loop-i.invariant (omega arith) _ c.wide-k.ensures c.if-k-eq0.false c.if-not-is_same.ensures
 
-pub returns-else-i-end-clause-leads : goal.returns-else-i-end-clause-leads
-returns-else-i-end-clause-leads c = (going-ends c.loop-z.invariant (omega arith)).1.0
+pub returns-then-k-eq0-clause-leads : goal.returns-then-k-eq0-clause-leads
+returns-then-k-eq0-clause-leads c = turned_short c.loop-i.invariant (omega arith) _ c.wide-k.ensures c.if-k-eq0.true
 
-pub returns-after-loop-z-clause-leads : goal.returns-after-loop-z-clause-leads
-returns-after-loop-z-clause-leads c = (going-over c.loop-z.invariant c.loop-z-test.false).1.0
+pub returns-then-not-is_same-clause-leads : goal.returns-then-not-is_same-clause-leads
+returns-then-not-is_same-clause-leads c =
+    turned_over c.loop-i.invariant (omega arith) _ c.wide-k.ensures c.if-k-eq0.false c.if-not-is_same.ensures
+
+pub returns-clause-leads : goal.returns-clause-leads
+returns-clause-leads c = going-ends c.loop-i.invariant (omega arith)

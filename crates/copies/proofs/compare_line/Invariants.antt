@@ -3,8 +3,8 @@ use Prim.Native.Nat.{suc, ◌-◌}
 use Rattle.copies.proofs.Line.{Led}
 use Rattle.copies.proofs.compare_line.Given as goal
 
-abbrev pub invariant-loop-z : goal.invariant-loop-z
-invariant-loop-z l = Led l.n l.plan l.work l.across l.m l.words l.initial.z l.formula l.z l.t
+abbrev pub invariant-loop-t : goal.invariant-loop-t
+invariant-loop-t l = Led l.slotted.n l.slotted.plan.now l.slotted.work.now l.across l.m l.words l.initial.z l.formula l.z l.t
 
-abbrev pub decreases-loop-z : goal.decreases-loop-z
-decreases-loop-z l = suc l.n - l.t
+abbrev pub decreases-loop-t : goal.decreases-loop-t
+decreases-loop-t l = suc l.slotted.n - l.t

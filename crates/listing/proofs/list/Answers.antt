@@ -5,4 +5,4 @@ use Rattle.listing.proofs.list.Goals as goal
 
 pub print_program-requires : goal.print_program-requires
 print_program-requires g c =
-    rw c.in-Written.ensures.words (program-fits _ _ _ _ _ _ _ (sym c.in-Written.ensures.answer))
+    rw c.in-Ok.ensures.words (program-fits _ _ _ _ _ _ _ (sym c.in-Ok.ensures.answer))

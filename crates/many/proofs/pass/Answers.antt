@@ -1,7 +1,8 @@
 -- `many::pass`: how the loop starts, goes on after a step, or ends.
 use native.Mathlib.Omega.{arith}
-use mathlib.Core.Path.{sym, ◌∙◌}
+use mathlib.Core.Path.{refl, sym, ◌∙◌}
 use Rattle.many.proofs.Passing.{some_words, starts, in_words, ready, turned_on, turned_over, ended}
+use Rattle.many.proofs.pass.Goals.{else-loop-next-test, then-loop-next-test+then-not-any_going}
 use Rattle.many.proofs.pass.Goals as goal
 
 pub bounds-words-0 : goal.bounds-words-0
@@ -19,23 +20,25 @@ loop-next-init c =
 pub step-z-requires : goal.step-z-requires
 step-z-requires c = ready c.loop-next.invariant.turn c.loop-next-test.true c.loop-next.invariant.order
 
-pub loop-next-preserved-then-any_going : goal.loop-next-preserved-then-any_going
-loop-next-preserved-then-any_going c =
-    let i = c.loop-next.invariant in
-    let e = c.step-z.ensures in
-    let kept = c.step-z.auto in
-    let turn = turned_on i.turn c.loop-next-test.true i.order (record { of_c = kept.c; of_y = kept.y; of_x = kept.x }) kept.running kept.out
-    e.steps e.sound.0 e.sound.1 (sym c.any_going.ensures ∙ c.if-any_going.true) c.wide-next-then-any_going.ensures in
-    record { order = i.order; turn = turn; inside = in_words turn }
-
 pub loop-next-preserved : goal.loop-next-preserved
 loop-next-preserved c =
     let i = c.loop-next.invariant in
     let e = c.step-z.ensures in
     let kept = c.step-z.auto in
-    let turn = turned_over i.turn c.loop-next-test.true i.order (record { of_c = kept.c; of_y = kept.y; of_x = kept.x }) kept.running kept.out
-    e.steps e.sound.0 e.sound.1 (sym c.any_going.ensures ∙ c.if-any_going.false) in
+    let turn = turned_on i.turn c.loop-next-test.true i.order (record { of_c = kept.c; of_y = kept.y; of_x = kept.x }) kept.running kept.out
+    e.steps e.sound.0 e.sound.1 (sym c.any_going.ensures ∙ c.if-not-any_going.false) c.wide-next-in-loop-next.ensures in
     record { order = i.order; turn = turn; inside = in_words turn }
 
 pub returns : goal.returns
-returns c = ended c.loop-next.invariant.turn c.loop-next-test.false
+returns c =
+    let i = c.loop-next.invariant in
+    elim c.loop-next-test.branch [
+      | else-loop-next-test w ↦
+          rw (w.c-is, w.y-is, w.x-is, w.running-is, w.out-is, w.z-is, w.records-is) (ended i.turn w.loop-next-test.false)
+      | then-loop-next-test+then-not-any_going w ↦
+          let e = w.step-z.ensures in
+          let kept = w.step-z.auto in
+          let turn = turned_over i.turn w.loop-next-test.true i.order (record { of_c = kept.c; of_y = kept.y; of_x = kept.x }) kept.running kept.out
+          e.steps e.sound.0 e.sound.1 (sym w.any_going.ensures ∙ w.if-not-any_going.true) in
+          rw (w.c-is, w.y-is, w.x-is, w.running-is, w.out-is, w.z-is, w.records-is) (ended turn refl)
+    ]

@@ -9,8 +9,4 @@ bounds-positions-wide c =
     omega (arith, c.wide.ensures, r, c.requires.1)
 
 pub loop-k-preserved : goal.loop-k-preserved
-loop-k-preserved c =
-    record {
-      noted = rw (c.wide.ensures, add-one) (noted_more c.requires.0 c.loop-k.invariant.noted c.loop-k-test.true c.requires.1);
-      within = omega arith;
-    }
+loop-k-preserved c = rw (c.wide.ensures, add-one) (noted_more c.requires.0 c.loop-k.invariant c.loop-k-test.true c.requires.1)

@@ -1,14 +1,7 @@
--- The loop makes one trial after another. Its invariant: the numbering is the one after k of them, its slots stand there, and the last trials, idle of
--- them, kept nothing.
-use Rattle.std.proofs.Common.{◌-◌, ◌≤◌}
+-- The loop makes one trial after another. Its invariant: the numbering is the one after k of them, its slots stand there, and the last trials, idle
+-- of them, kept nothing.
 use Rattle.ordering.proofs.Trials.{Tried}
 use Rattle.ordering.proofs.make_trials.Given as goal
 
 abbrev pub invariant-loop-k : goal.invariant-loop-k
-invariant-loop-k l = record {
-  tried : Tried l.n l.plan l.fn.work l.work l.rows l.columns l.numbering l.slots l.idle l.k;
-  within : l.k ≤ l.trials;
-}
-
-abbrev pub decreases-loop-k : goal.decreases-loop-k
-decreases-loop-k l = l.trials - l.k
+invariant-loop-k l = Tried l.n l.plan l.fn.work l.work l.firsts.rows l.firsts.columns l.numbering l.slots l.idle l.k

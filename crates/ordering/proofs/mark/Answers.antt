@@ -19,21 +19,20 @@ zeros c = rw c.wide.ensures at c.clear.ensures
 positions : (c : After-invert) → Inverse c.args.numbering.now c.args.n c.invert.new.positions
 positions c = rw c.requires.numbering.0.size at c.invert.ensures
 
-pub loop-k-init : goal.loop-k-init
-loop-k-init c =
+pub loop-label-init : goal.loop-label-init
+loop-label-init c =
     let p = c.requires in
     record {
-      marked = marked-none p.numbering.0 _ (zeros (goal.at.loop-k-init c).After-clear);
-      within = omega arith;
+      marked = marked-none p.numbering.0 _ (zeros (goal.at.loop-label-init c).After-clear);
       reaches = λ j low high. first-batch _ _ (within-range _ 600 p.n_value.0).0 (label_inside _ _ _ p.n_value.1 high).0;
     }
 
 pub batch_of-batch-requires : goal.batch_of-batch-requires
 batch_of-batch-requires c =
     let p = c.requires.n_value in
-    let k = c.loop-k.k in
-    let more = c.loop-k-test.true in
-    (((within-range _ 600 p.0).1, (label_inside _ _ k p.1 more).1), c.loop-k.invariant.reaches k (omega arith) more)
+    let k = c.loop-label.label-index in
+    let more = c.loop-label-test.true in
+    (((within-range _ 600 p.0).1, (label_inside _ _ k p.1 more).1), c.loop-label.invariant.reaches k (omega arith) more)
 
 pub moved-index-requires-clause-positions_len : goal.moved-index-requires-clause-positions_len
 moved-index-requires-clause-positions_len c =
@@ -41,12 +40,12 @@ moved-index-requires-clause-positions_len c =
     (v.size, positions-range c.requires.numbering.0 v)
 
 -- the index of the label's work number
-index : (c : After-moved-index) → let count = c.args.n * c.args.n in (c.moved-index.result < count) × (count ≤ 360000) × (count ≤ length c.loop-k.work)
+index : (c : After-moved-index) → let count = c.args.n * c.args.n in (c.moved-index.result < count) × (count ≤ 360000) × (count ≤ length c.loop-label.work)
 index c =
     let high = (within-range c.args.n 600 c.requires.n_value.0).1 in (
       index-range c.requires.numbering.0 (positions (goal.at.After-moved-index c).After-invert) c.moved-index.ensures,
       mul-le-mul {n₂ = 600} {m₂ = 600} high high,
-      omega (arith, c.loop-k.invariant.marked.size),
+      omega (arith, c.loop-label.invariant.marked.size),
     )
 
 pub offset_bounds-work-index : goal.offset_bounds-work-index
@@ -55,22 +54,21 @@ offset_bounds-work-index c = omega (arith, index (goal.at.offset_bounds-work-ind
 pub bounds-work-index : goal.bounds-work-index
 bounds-work-index c = omega (arith, index (goal.at.bounds-work-index c).After-moved-index)
 
-pub loop-k-preserved : goal.loop-k-preserved
-loop-k-preserved c =
+pub loop-label-preserved : goal.loop-label-preserved
+loop-label-preserved c =
     let p = c.requires in
-    let k = c.loop-k.k in
+    let k = c.loop-label.label-index in
     let plan = c.args.plan.now in
-    let label-more = take-suc plan k 0 c.loop-k-test.true in
+    let label-more = take-suc plan k 0 c.loop-label-test.true in
     let room : c.args.n * c.args.n ≤ length c.clear.new.work = omega arith in
-    let v = positions (goal.at.loop-k-preserved c).After-invert in
+    let v = positions (goal.at.loop-label-preserved c).After-invert in
     record {
-      marked = rw (add-one, label-more) (marked_more p.numbering.0 v room c.loop-k.invariant.marked c.moved-index.ensures);
-      within = omega arith;
+      marked = rw (add-one, label-more) (marked_more p.numbering.0 v room c.loop-label.invariant.marked c.moved-index.ensures);
       reaches = λ j low high. reaches-later _ plan k j p.n_value.1 (omega arith) high c.batch_of-batch.ensures;
     }
 
 pub returns : goal.returns
 returns c =
     let p = c.requires.numbering in
-    let all = take_all c.loop-k.k c.args.plan.now c.loop-k-test.false in
-    marked_since p.0 _ (zeros (goal.at.returns c).After-clear) p.1 (rw all at c.loop-k.invariant.marked)
+    let all = take_all c.loop-label.label-index c.args.plan.now c.loop-label-test.false in
+    marked_since p.0 _ (zeros (goal.at.returns c).After-clear) p.1 (rw all at c.loop-label.invariant.marked)

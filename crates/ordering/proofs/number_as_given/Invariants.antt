@@ -1,10 +1,7 @@
 -- The loop writes 1, 2, .. Its invariant: the first k are written.
-use Rattle.std.proofs.Common.{◌-◌, ◌≤◌, ◌≡◌, length, take}
+use Rattle.std.proofs.Common.{◌≡◌, take}
 use Rattle.model.specs.Numbering.{given_numbering}
 use Rattle.ordering.proofs.number_as_given.Given as goal
 
 abbrev pub invariant-loop-k : goal.invariant-loop-k
-invariant-loop-k l = record { within : l.k ≤ length l.numbering; written : take l.k l.numbering ≡ given_numbering l.k }
-
-abbrev pub decreases-loop-k : goal.decreases-loop-k
-decreases-loop-k l = length l.numbering - l.k
+invariant-loop-k l = take l.k l.numbering ≡ given_numbering l.k

@@ -1,5 +1,4 @@
 -- `progress::onward` is the progress after a record.
-use mathlib.Core.Logic.{inl, inr}
 use mathlib.Core.Path.{sym, ap, ◌∙◌}
 use native.Mathlib.Omega.{arith}
 use Rattle.model.specs.Check.{kind_of, onward}
@@ -11,34 +10,30 @@ pub returns-in-1 : goal.returns-in-1
 unfolding kind_of
 returns-in-1 c =
     let a = c.args in
-    c.opened.ensures ∙ ap (λ k. onward (kind_of k) a.p a.q (progress_of a.g)) (sym c.in-1.is)
+    c.«open».ensures ∙ ap (λ k. onward (kind_of k) a.r.p a.r.q (progress_of a.g.now)) (sym c.in-1.is)
 
 pub returns-in-2 : goal.returns-in-2
 unfolding kind_of
 returns-in-2 c =
     let a = c.args in
-    c.opened-in-2.ensures ∙ ap (λ k. onward (kind_of k) a.p a.q (progress_of a.g)) (sym c.in-2.is)
+    c.open-in-2.ensures ∙ ap (λ k. onward (kind_of k) a.r.p a.r.q (progress_of a.g.now)) (sym c.in-2.is)
 
 pub returns-in-3 : goal.returns-in-3
 returns-in-3 c =
     let a = c.args in
-    c.opened-in-3.ensures ∙ ap (λ k. onward k a.p a.q (progress_of a.g)) (opens-x a.kind c.in-3.is)
+    c.open-in-3.ensures ∙ ap (λ k. onward k a.r.p a.r.q (progress_of a.g.now)) (opens-x a.r.kind c.in-3.is)
 
 pub returns-in-8 : goal.returns-in-8
 returns-in-8 c =
     let a = c.args in
-    c.closed.ensures ∙ onward-closes a.kind a.p a.q (progress_of a.g) (omega arith) (omega arith)
+    c.close.ensures ∙ onward-closes a.r.kind a.r.p a.r.q (progress_of a.g.now) (omega arith) (omega arith)
 
-pub returns-in_default : goal.returns-in_default
-returns-in_default c =
+pub returns-then-r-lt8 : goal.returns-then-r-lt8
+returns-then-r-lt8 c =
     let a = c.args in
-    let other = c.in_default.in_default-own.rest.1 in
-    onward-same a.kind a.p a.q (progress_of a.g) (λ e. omega arith) (λ e. omega arith) (λ e. other (inl e))
-    (λ e. omega arith) (λ e. omega arith) (λ e. other (inr e))
+    onward-same a.r.kind a.r.p a.r.q (progress_of a.g.now) (λ e. grind arith) (λ e. grind arith) (λ e. grind arith) (λ e. grind arith) (λ e. grind arith) (λ e. grind arith)
 
-pub returns-in_default-2 : goal.returns-in_default-2
-returns-in_default-2 c =
+pub returns-else-r-lt10 : goal.returns-else-r-lt10
+returns-else-r-lt10 c =
     let a = c.args in
-    let other = c.in_default.in_default-own.rest.1 in
-    onward-same a.kind a.p a.q (progress_of a.g) (λ e. omega arith) (λ e. omega arith) (λ e. other (inl e))
-    (λ e. omega arith) (λ e. omega arith) (λ e. other (inr e))
+    onward-same a.r.kind a.r.p a.r.q (progress_of a.g.now) (λ e. grind arith) (λ e. grind arith) (λ e. grind arith) (λ e. grind arith) (λ e. grind arith) (λ e. grind arith)

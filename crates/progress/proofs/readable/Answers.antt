@@ -16,20 +16,20 @@ use Rattle.progress.proofs.readable.Goals as goal
 pub returns-then-not-within : goal.returns-then-not-within
 returns-then-not-within c =
     let a = c.args in
-    let sub = subtracting a.kind c.requires.0 c.requires.1 in
-    readable_is a.h a.g a.kind a.p a.q sub.table sub.kind_is.is (sym c.if-not-within.true ∙ c.within.ensures) refl
+    let sub = subtracting a.r.kind c.requires.0 c.requires.1 in
+    readable_is a.h a.g a.r.kind a.r.p a.r.q sub.table sub.kind_is.is (sym c.if-not-within.true ∙ c.within.ensures) refl
 
 pub returns-in-4 : goal.returns-in-4
 unfolding kind_of
 returns-in-4 c =
     let a = c.args in
-    readable_is a.h a.g a.kind a.p a.q C (ap kind_of c.in-4.is) (sym c.if-not-within.false ∙ c.within.ensures) c.within-in-4.ensures
+    readable_is a.h a.g a.r.kind a.r.p a.r.q C (ap kind_of c.in-4.is) (sym c.if-not-within.false ∙ c.within.ensures) c.within-in-4.ensures
 
 pub returns-in-5 : goal.returns-in-5
 unfolding kind_of
 returns-in-5 c =
     let a = c.args in
-    readable_is a.h a.g a.kind a.p a.q Y (ap kind_of c.in-5.is) (sym c.if-not-within.false ∙ c.within.ensures) c.within-in-5.ensures
+    readable_is a.h a.g a.r.kind a.r.p a.r.q Y (ap kind_of c.in-5.is) (sym c.if-not-within.false ∙ c.within.ensures) c.within-in-5.ensures
 
 -- the test of the last arm, which is kind 6
 of_x : (h : Head) (g : Progress) (kind p q : ℕ) {b : Bool} → kind ≡ 6 → true ≡ within p g.c → b ≡ within q h.order
@@ -41,11 +41,11 @@ of_x h g kind p q is first second =
 pub returns-then-within : goal.returns-then-within
 returns-then-within c =
     let a = c.args in
-    of_x a.h a.g a.kind a.p a.q (omega arith) (sym c.if-not-within.false ∙ c.within.ensures)
+    of_x a.h a.g a.r.kind a.r.p a.r.q (omega arith) (sym c.if-not-within.false ∙ c.within.ensures)
     (sym c.if-within.true ∙ c.within-in_default.ensures)
 
 pub returns-else-within : goal.returns-else-within
 returns-else-within c =
     let a = c.args in
-    c.if-within.false ∙ of_x a.h a.g a.kind a.p a.q (omega arith) (sym c.if-not-within.false ∙ c.within.ensures)
+    c.if-within.false ∙ of_x a.h a.g a.r.kind a.r.p a.r.q (omega arith) (sym c.if-not-within.false ∙ c.within.ensures)
     (sym c.if-within.false ∙ c.within-in_default.ensures)

@@ -1,5 +1,6 @@
--- `residual::less_products` takes the products away label by label. The invariant: those of the first k are taken, and the batch is none past the next.
-use Prim.Native.Nat.{ℕ, ◌-◌, ◌*◌, ◌≤◌, ◌<◌}
+-- `residual::less_products` takes the products away label by label. The invariant: those of the first k are taken, and the batch is none past the
+-- next.
+use Prim.Native.Nat.{ℕ, ◌*◌, ◌≤◌, ◌<◌}
 use mathlib.Core.Path.{◌≡◌}
 use mathlib.Core.List.{List}
 use lib.ListN.{length, get_or}
@@ -10,13 +11,9 @@ use Rattle.residual.specs.Subtracted.{start_of}
 use Rattle.residual.proofs.Labelled.{less_up_to}
 use Rattle.residual.proofs.less_products.Given as goal
 
-abbrev pub invariant-loop-k : goal.invariant-loop-k
-invariant-loop-k l = record {
-  taken : (B : List Float) → HeldRows l.n (start_of B) l.initial.words → HeldRows l.n (less_up_to l.n l.plan l.a B l.x l.k) l.words;
+abbrev pub invariant-loop-label : goal.invariant-loop-label
+invariant-loop-label l = record {
+  taken : (B : List Float) → HeldRows l.n (start_of B) l.initial.words → HeldRows l.n (less_up_to l.n l.plan l.a B l.x (length l.yielded)) l.words;
   long : length l.words ≡ l.n * 66;
-  within : l.k ≤ length l.plan;
-  none_past : (j : ℕ) → l.k ≤ j → j < length l.plan → Reaches l.n (get_or l.plan j 0) l.batch;
+  none_past : (j : ℕ) → length l.yielded ≤ j → j < length l.plan → Reaches l.n (get_or l.plan j 0) l.batch;
 }
-
-abbrev pub decreases-loop-k : goal.decreases-loop-k
-decreases-loop-k l = length l.plan - l.k

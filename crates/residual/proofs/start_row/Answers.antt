@@ -5,5 +5,5 @@ use Rattle.residual.proofs.start_row.Goals as goal
 
 pub returns : goal.returns
 returns c =
-    value-put _ c.clear.new.row c.change_wide.new.words c.parts-value.ensures refl
-    (rw c.requires.0 at c.clear.ensures) (λ k below. (c.type_inv.row k).fits) c.change_wide.ensures
+    value-put _ c.fill.new.self c.change_wide.new.words c.parts-value.ensures refl
+    (rw c.requires.0 at (c.fill.ensures.after (λ y h. h))) (λ k below. (c.type_inv.row k).fits) c.change_wide.ensures

@@ -8,7 +8,7 @@ use Rattle.reuse.proofs.release.Goals.{In-loop-h, then-slot-ne0, else-slot-ne0}
 pub loop-h-init : goal.loop-h-init
 loop-h-init c =
     let r = c.requires in
-    releasing_starts c.larger-h.ensures (omega arith) r.m_bound.0 r.m_bound.1
+    releasing_starts (omega arith) (omega arith) r.m_bound.0 r.m_bound.1
     (λ below. c.wide-across.ensures ∙ (c.label.ensures ∙ label-answered _ _ _ r.inside.1.0 (omega arith)))
 
 -- the label of the place of a turn
@@ -34,7 +34,7 @@ loop-h-preserved c =
     let pushed = c.push-top.ensures in
     releasing_more r c.loop-h-test.true inside.0.row-high inside.1.0 c.wide-in-loop-h.ensures
     (elim c.if-slot-ne0.branch [
-      | then-slot-ne0 w ↦ dies_if_last r w.if-slot-ne0.true w.wide.ensures w.larger.ensures w.dies-is
+      | then-slot-ne0 w ↦ dies_if_last r w.if-slot-ne0.true w.wide.ensures w.max.ensures w.dies-is
       | else-slot-ne0 w ↦ dies_not r w.if-slot-ne0.false w.dies-is
     ])
     pushed.given_after (search rules) pushed.upper_bound.0 pushed.upper_bound.1 pushed.by_index

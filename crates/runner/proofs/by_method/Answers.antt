@@ -3,5 +3,5 @@ use native.Mathlib.Omega.{arith}
 use Rattle.model.proofs.Passing.{fine-passed}
 use Rattle.runner.proofs.by_method.Goals as goal
 
-pub bounds-words-2 : goal.bounds-words-2
-bounds-words-2 c = omega (arith, fine-passed _ c.requires.checked)
+pub bounds-given-2 : goal.bounds-given-2
+bounds-given-2 c = omega (arith, fine-passed _ c.requires.checked)

@@ -7,8 +7,8 @@ use Rattle.runner.proofs.Turns.{NextRuns, left}
 use Rattle.runner.proofs.follow.Given as goal
 
 abbrev pub invariant-loop-after : goal.invariant-loop-after
-invariant-loop-after l = record {
-  runs : NextRuns l.words l.a l.b l.limit l.sweeps l.fn.z l.fn.c l.fn.y l.fn.x l.c l.y l.x l.z l.k;
+invariant-loop-after g l = record {
+  runs : NextRuns l.words l.a l.b l.limit g.M.Method.sweeps l.fn.z l.fn.c l.fn.y l.fn.x l.c l.y l.x l.z l.k;
   some : l.k ≡ 0 → ⊥;
   from : l.initial.k ≤ l.k;
   inside : l.k < length l.words / 4;
@@ -16,10 +16,10 @@ invariant-loop-after l = record {
 }
 
 abbrev pub decreases-loop-after : goal.decreases-loop-after
-decreases-loop-after l = length l.words / 4 - l.k
+decreases-loop-after g l = length l.words / 4 - l.k
 
 abbrev pub invariant-loop-next : goal.invariant-loop-next
-invariant-loop-next l = NextRuns l.words l.a l.b l.limit l.sweeps l.fn.z l.fn.c l.fn.y l.fn.x l.c l.y l.x l.z l.next
+invariant-loop-next g l = NextRuns l.words l.a l.b l.limit g.M.Method.sweeps l.fn.z l.fn.c l.fn.y l.fn.x l.c l.y l.x l.z l.next
 
 abbrev pub decreases-loop-next : goal.decreases-loop-next
-decreases-loop-next l = left l.words l.next
+decreases-loop-next g l = left l.words l.next

@@ -1,11 +1,7 @@
--- `runner::sweep`: sweeps until they settle. The invariant: so many sweeps are made, and those to come decide how the run ends. The measure is how many
--- are left.
+-- `runner::sweep`: sweeps until they settle. The invariant: so many sweeps are made, and those to come decide how the run ends.
 use Prim.Native.Nat.{◌-◌}
 use Rattle.runner.proofs.Sweeps.{Sweeping}
 use Rattle.runner.proofs.sweep.Given as goal
 
 abbrev pub invariant-loop-sweeps : goal.invariant-loop-sweeps
-invariant-loop-sweeps l = Sweeping l.words l.a l.b l.limit l.c l.y l.x l.z l.sweeps
-
-abbrev pub decreases-loop-sweeps : goal.decreases-loop-sweeps
-decreases-loop-sweeps l = 300 - l.sweeps
+invariant-loop-sweeps l = Sweeping l.given.words.now l.given.a.now l.given.b.now l.given.limit l.c l.y l.x l.z (l.sweeps - 1)

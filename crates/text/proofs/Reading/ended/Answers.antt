@@ -1,22 +1,24 @@
 -- `text::Reading::ended` names what was read, or the first fault.
-use Rattle.std.proofs.Common.{ap, ◌∙◌}
-use Rattle.model.specs.Text as Text
-use Rattle.text.specs.Readings.{stage_of}
+use Rattle.std.proofs.Common.{rules, arith, refl}
+use Rattle.model.specs.Text.{ended}
+use Rattle.text.specs.Readings.{Kept}
 use Rattle.text.proofs.Numbers.{untouched_joined}
-use Rattle.text.proofs.Steps.{ended-faulty, ended-between, ended-within}
+use Rattle.text.proofs.Reading.ended.Goals.{in-Between, in-Within}
 use Rattle.text.proofs.Reading.ended.Goals as goal
 
 pub returns-in-Faulty-clause-numbers_after : goal.returns-in-Faulty-clause-numbers_after
-returns-in-Faulty-clause-numbers_after c = ended-faulty _ _ (ap stage_of c.in-Faulty.is)
+unfolding ended
+returns-in-Faulty-clause-numbers_after c = search rules
 
-pub returns-in-Between-clause-numbers_after : goal.returns-in-Between-clause-numbers_after
-returns-in-Between-clause-numbers_after c = c.named.ensures.numbers_value ∙ ended-between _ _ (ap stage_of c.in-Between.is)
+pub returns-clause-numbers_after : goal.returns-clause-numbers_after
+unfolding ended
+returns-clause-numbers_after c = search rules
 
-pub returns-in-Within-clause-numbers_after : goal.returns-in-Within-clause-numbers_after
-returns-in-Within-clause-numbers_after c =
-    c.named-in-Within.ensures.numbers_value ∙ ap (Text.named c.args.self.position) c.join-more.ensures.numbers_after
-    ∙ ended-within _ _ (ap stage_of c.in-Within.is)
-
-pub returns-in-Within-clause-untouched : goal.returns-in-Within-clause-untouched
-returns-in-Within-clause-untouched c =
-    untouched_joined c.join-more.ensures.kept c.join-more.auto.numbers c.named-in-Within.result c.named-in-Within.ensures.counted
+pub returns-clause-untouched : goal.returns-clause-untouched
+returns-clause-untouched c =
+    let met = c.match-self in
+    let kept : Kept c.args.self.count met.count c.args.numbers.now met.numbers = elim met.branch [
+      | in-Between w ↦ rw (w.numbers-is, w.count-is) (record { grown = omega arith; rest = refl })
+      | in-Within w ↦ rw (w.numbers-is, w.count-is) w.join-count.ensures.kept
+    ] in
+    untouched_joined kept met.auto.numbers c.named.result c.named.ensures.counted

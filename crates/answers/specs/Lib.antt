@@ -1,0 +1,2 @@
+-- What the contracts of `answers` cite.
+pub mod Numbers

@@ -1,0 +1,2 @@
+-- What the contracts of `refusal` cite.
+pub mod Named
