@@ -51,7 +51,7 @@ let a = bytes[i.min(j)]; read_file(&bytes[..written as usize], again)
 ensures { result ≡ fold [a, b] } { 0 }
 END
 
-[ $# -gt 0 ] || set -- crates/{codec,checker,progress,numbers}/src/**/*.rt
+[ $# -gt 0 ] || set -- crates/{codec,checker,progress,numbers,refusal}/src/**/*.rt
 for file; do
     found=$(tokens "$file" | array)
     [ -z "$found" ] || fail "$file has an array: $found.."

@@ -2,7 +2,7 @@
 #![tactic(auto)]
 
 ghost use Rattle.std.specs.Prelude.{◌≡◌, ◌<◌, ◌^◌, List, ℕ, ◌∷◌, [], IfErr};
-ghost use Rattle.model.specs.Boundary.{costs_number, reply_number, reply_numbers, limit_numbers};
+ghost use Rattle.model.specs.Boundary.{refusal_number, costs_number, reply_number, reply_numbers, limit_numbers};
 ghost use Rattle.refusal.specs.Named.{refused_number};
 ghost use Rattle.costs.specs.Costed.{costs_of};
 ghost use Rattle.runner.specs.Outcome.{reply_of};
@@ -12,7 +12,6 @@ use compiler::Written;
 use ordering::Renumbered;
 use refusal::Refusal;
 use runner::{Failure, Solution};
-use state::Fault;
 
 // What a call tells beside its answer, as three numbers.
 pub trait Told {
@@ -68,12 +67,20 @@ impl Told for u32 {
     }
 }
 
-// The refusal's number times 2^32 plus its detail.
+// A refusal's number times 2^32 plus its detail.
+pub fn refusal(number: u32, detail: u64) -> u64
+    requires { refusal_number number detail < 2 ^ 64 }
+    ensures { result ≡ refusal_number number detail }
+{
+    u64::from(number) * 4294967296 + detail
+}
+
+// The same of a refusal by name.
 pub fn refused(refusal: Refusal) -> u64
     requires { refused_number refusal < 2 ^ 64 }
     ensures { result ≡ refused_number refusal }
 {
-    u64::from(refusal.number()) * 4294967296 + refusal.detail()
+    crate::refusal(refusal.number(), refusal.detail())
 }
 
 // A check's answer: 0, or its refusal.
@@ -136,11 +143,7 @@ pub fn limit_answer(answer: Result<Solution, Failure>, out: &mut [u64; 4]) -> u6
         }
         Err(Failure::Stopped(stop)) => {
             *out = [u64::from(stop.table), u64::from(stop.target), 0, 0];
-            let record = u64::from(stop.record);
-            match stop.fault {
-                Fault::Overflow => refused(Refusal::Overflow { record }),
-                Fault::ZeroDivisor => refused(Refusal::ZeroDivisor { record }),
-            }
+            refusal(stop.fault.number(), u64::from(stop.record))
         }
         Err(Failure::Refused(refusal)) => {
             *out = [0, 0, 0, 0];

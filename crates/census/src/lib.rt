@@ -42,7 +42,7 @@ fn first_missing(n: u32, set: u32) -> u32
     requires { within n 4 ≡ true }
     ensures { result ≡ missing n (marked (n * n) set) }
 {
-    let mut firsts = Firsts::new();
+    let mut firsts = Firsts::room();
     let mut work = [0u32; 16];
     mark_set(set, &mut work);
     let filled = slots::fill(n, &mut work, &mut firsts);

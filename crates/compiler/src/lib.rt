@@ -53,7 +53,8 @@ pub fn compile(
     }
 }
 
-// Document 01's compiler: 1 to 5 and the slots, 6 and the records.
+// Document 01's compiler: 1 to 5 and the slots, 6 and the records. It isn't compiled into `compile`: a sweep's frame would have room for its notes.
+#[inline(never)]
 fn compile_plain(
     n: u32,
     plan: &[u32],
@@ -62,7 +63,7 @@ fn compile_plain(
 ) -> Result<Written, Refusal>
     ensures { Ends plain n plan.now work.old words.old (compiled_of result) work.new words.new }
 {
-    let mut firsts = Firsts::new();
+    let mut firsts = Firsts::room();
     let filled = plans::slots(n, plan, work, &mut firsts, 1)?;
     let records = record_count(n, filled);
     check_words(records, words.len())?;
@@ -82,7 +83,8 @@ fn compile_plain(
     })
 }
 
-// The second compiler. The work numbers past the first n² are cleared, whether the program was written or not.
+// The second compiler. The work numbers past the first n² are cleared, whether the program was written or not. See `compile_plain`.
+#[inline(never)]
 fn compile_compact(
     n: u32,
     plan: &[u32],
@@ -91,7 +93,7 @@ fn compile_compact(
 ) -> Result<Written, Refusal>
     ensures { Ends compact n plan.now work.old words.old (compiled_of result) work.new words.new }
 {
-    let mut firsts = Firsts::new();
+    let mut firsts = Firsts::room();
     let filled = plans::slots(n, plan, work, &mut firsts, 4)?;
     let written = write_compact(n, plan, work, &firsts, words, filled);
     let square = wide(n * n);

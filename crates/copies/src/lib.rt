@@ -36,7 +36,7 @@ pub fn compare(n: u32, plan: &[u32], work: &mut [u32], words: &[u32]) -> Result<
     ensures answer { verdict_of result ≡ compares n plan.now (length work.old) words.now }
     ensures work { work.new ≡ work_compared n plan.now work.old }
 {
-    let mut firsts = Firsts::new();
+    let mut firsts = Firsts::room();
     let filled = plans::slots(n, plan, work, &mut firsts, 1)?;
     compare_program(n, plan, work, &firsts, words, filled.slots)
 }

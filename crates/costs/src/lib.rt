@@ -13,7 +13,7 @@ pub fn costs_most(n: u32, plan: &[u32], work: &mut [u32]) -> Result<bool, Refusa
     ensures answer { costs_of result ≡ costs n plan.now (length work.old) }
     ensures work { work.new ≡ work_costed n plan.now work.old }
 {
-    let mut firsts = Firsts::new();
+    let mut firsts = Firsts::room();
     let filled = plans::slots(n, plan, work, &mut firsts, 1)?;
     Ok(filled.products == most_products(n))
 }

@@ -54,6 +54,15 @@ module _ {N : ℕ} {L : Plan} {p : Numbering} {work in_rows in_columns : List �
   abbrev P : Plan
   P = renumbered N L p
 
+  -- the pivots' labels are small
+  pivots_small : (label N t t ≤ 360000) × (1 ≤ label N t t) × (label N (suc t) (suc t) ≤ 360000) × (1 ≤ label N (suc t) (suc t)) × (N ≤ 600)
+  pivots_small =
+      let high = s.stands.high in
+      let square = mul-le-mul {n₂ = 600} {m₂ = 600} high high in
+      let a = label-range N t t (record { row_low = near.0; row-high = omega (arith, near.1); column-low = near.0; column-high = omega (arith, near.1) }) in
+      let b = label-range N (suc t) (suc t) (record { row_low = omega arith; row-high = near.1; column-low = omega arith; column-high = near.1 }) in
+      (omega (arith, a, square), a.0, omega (arith, b, square), b.0, high)
+
   pub count-start : {across : Bool} {k : ℕ} → k ≡ suc (suc t) → Counting N P t across 0 0 k
   count-start {across} e = rw e (record {
     before_is = up_to_start (first_line N P t across) (second_line N P t across) (linked N P t across) t;

@@ -91,12 +91,14 @@ pub fn batch_of(n: u32, k: u32, mut batch: Batch) -> Batch
     requires { ((n ≤ 600) × (k ≤ n * n)) × Reaches n k batch }
     ensures { Holds n k result }
 {
+    let mut end = batch.end(n);
     // By hand: the next batch begins where one ends, so a `for` over the numbers would have to count the labels before it beside.
-    while batch.end(n) < k {
+    while end < k {
         batch = Batch {
             number: batch.number + 1,
-            before: batch.end(n),
+            before: end,
         };
+        end = batch.end(n);
     }
     batch
 }

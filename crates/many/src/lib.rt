@@ -13,7 +13,7 @@ ghost use Rattle.many.specs.Passes.{lengths_fit, FitMany, endings, Passed, told,
 
 use numbers::{wide, within};
 use refusal::Refusal;
-use runner::check_values;
+use runner::{check_values, clear};
 use sides::each::any_going;
 use state::State;
 
@@ -113,7 +113,7 @@ fn run_sides(
     clear_ended(out, count, order, y);
     clear_ended(out, count, order, x);
     if !any_going(out, count) {
-        c.fill(0.0);
+        clear(c);
     }
 }
 
@@ -205,7 +205,7 @@ fn clear_ended(out: &[u64], count: usize, order: usize, values: &mut [f64])
     for r in 0..count {
         if out[4 * r + 1] != 0 {
             let first = r * order;
-            values[first..first + order].fill(0.0);
+            clear(&mut values[first..first + order]);
         }
     }
 }

@@ -39,7 +39,7 @@ pub fn order(
     ensures work { work.new ≡ renumbered_work n plan.now trials work.old (length numbering.old) }
     ensures numbering { numbering.new ≡ numbering_after n plan.now trials (length work.old) numbering.old }
 {
-    let mut firsts = Firsts::new();
+    let mut firsts = Firsts::room();
     let filled = plans::slots(n, plan, work, &mut firsts, 1)?;
     if numbering.len() != wide(n) {
         return Err(Refusal::Numbering);
@@ -148,7 +148,6 @@ fn fill_anew(
         work.new firsts.new.rows firsts.new.columns result }
 {
     mark(n, plan, numbering, work);
-    firsts.clear();
     slots::fill(n, work, firsts)
 }
 

@@ -197,18 +197,20 @@ module _ {N : ℕ} {L : Plan} {i j : ℕ} (l : Leads N L i j) where
     }
 
     -- at the end all of it is written
-    pub shown : (entry : List ℕ) → before ≡ set entry 0 i → 601 ≤ z.next → Shown N L i j z.count entry list
-    unfolding ahead
-    shown entry first ended =
-        let end : z.next ≡ length stack = omega (arith, t.ends, t.deep) in
-        let done : drop z.next stack ≡ [] = ap (λ k. drop k stack) end ∙ drop-length stack in
-        let whole : take z.count list ≡ route N L i j =
-        sym (append-nil (take z.count list)) ∙ ap (λ k. take z.count list ++ ahead N L z.last k) (sym done) ∙ t.path
-        in
-        record {
-          entries = route N L i j;
-          path = held-path N L i j l.inside l.holds;
-          count = sym t.total ∙ ap (λ k. z.count + length (ahead N L z.last k)) done ∙ add-zero z.count;
-          list = sym (take-append-drop z.count list)
-              ∙ ap₂ ◌++◌ whole (t.later ∙ ap (drop z.count) first ∙ drop-set-lt z.count entry 0 i t.some);
-        }
+    module _ (ended : 601 ≤ z.next) where
+      done : drop z.next stack ≡ []
+      done = let end : z.next ≡ length stack = omega (arith, t.ends, t.deep) in ap (λ k. drop k stack) end ∙ drop-length stack
+
+      pub whole : take z.count list ≡ route N L i j
+      unfolding ahead
+      whole = sym (append-nil (take z.count list)) ∙ ap (λ k. take z.count list ++ ahead N L z.last k) (sym done) ∙ t.path
+
+      pub shown : (entry : List ℕ) → before ≡ set entry 0 i → Shown N L i j z.count entry list
+      unfolding ahead
+      shown entry first = record {
+        entries = route N L i j;
+        path = held-path N L i j l.inside l.holds;
+        count = sym t.total ∙ ap (λ k. z.count + length (ahead N L z.last k)) done ∙ add-zero z.count;
+        list = sym (take-append-drop z.count list)
+            ∙ ap₂ ◌++◌ whole (t.later ∙ ap (drop z.count) first ∙ drop-set-lt z.count entry 0 i t.some);
+      }

@@ -1,10 +1,11 @@
 // Why a place is held: a path through places of the plan. Document 02, A.2.
 #![tactic(auto)]
 
-ghost use Rattle.std.specs.Prelude.{◌≡◌, ◌&&◌, ◌-◌, ◌*◌, ◌≤◌, ◌<◌, ltb, length, get_or};
+ghost use Rattle.std.specs.Prelude.{◌≡◌, ◌&&◌, ◌-◌, ◌*◌, ◌≤◌, ◌<◌, ltb, length, get_or, take};
 ghost use Rattle.model.specs.Label.{is_place};
 ghost use Rattle.model.specs.Label;
 ghost use Rattle.model.specs.Path.{Traces, work_traced, Shown};
+ghost use Rattle.model.specs.Route.{route};
 ghost use Rattle.paths.specs.Traced.{traced_of};
 ghost use Rattle.plans.specs.Stands.{Stands, Leads};
 
@@ -26,7 +27,7 @@ pub fn fill_path(
     ensures work { work.new ≡ work_traced n plan.now work.old }
 {
     plans::check(n, plan, work.len(), 1)?;
-    let mut firsts = Firsts::new();
+    let mut firsts = Firsts::room();
     plans::fill(n, plan, work, &mut firsts);
     if !is_held(n, work, i, j) {
         return Err(Refusal::NotHeld);
@@ -60,7 +61,8 @@ fn trace(
     requires stands { Stands n plan.now work.now firsts.now.rows firsts.now.columns }
     requires leads { Leads n plan.now i j }
     requires n_in_bounds { n < length list.old }
-    ensures { Shown n plan.now i j result list.old list.new }
+    ensures shown { Shown n plan.now i j result list.old list.new }
+    ensures smallest { take result list.new ≡ route n plan.now i j }
 {
     let mut stack = [0u32; 601];
     stack[600] = j;

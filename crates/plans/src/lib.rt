@@ -7,7 +7,6 @@ ghost use Rattle.model.specs.Compile.{judged, good, orderly};
 ghost use Rattle.model.specs.Fill.{in_plan};
 ghost use Rattle.model.proofs.Labels.{Inside};
 ghost use Rattle.slots.specs.Walked.{FillsPlan};
-ghost use Rattle.slots.specs.Unnoted.{Unnoted};
 ghost use Rattle.refusal.specs.Named.{labels_of};
 ghost use Rattle.plans.specs.Slotted.{Slotted, Refuses};
 ghost use Rattle.plans.specs.Stands.{Sought, Smallest};
@@ -57,7 +56,6 @@ fn judge(n: u32, plan: &[u32]) -> Result<(), Refusal>
 pub fn fill(n: u32, plan: &[u32], work: &mut [u32], firsts: &mut Firsts) -> Filled
     requires n_value { (is_order n ≡ true) × (judged n 0 1 plan.now ≡ good) }
     requires n_in_bounds { n * n ≤ length work.old }
-    requires unnoted { Unnoted firsts.old }
     ensures { FillsPlan n plan.now work.old work.new firsts.new.rows firsts.new.columns result }
 {
     slots::mark(n, plan, work);
@@ -74,7 +72,6 @@ pub fn slots(
     each: u32,
 ) -> Result<Filled, Refusal>
     requires le_each { (1 ≤ each) × (each ≤ 4) }
-    requires unnoted { Unnoted firsts.old }
     ensures { MatchResult result
         (λ filled. Slotted each n plan.now work.old work.new firsts.new.rows firsts.new.columns filled)
         (λ refusal. Refuses each n plan.now work.old work.new refusal) }

@@ -1,8 +1,8 @@
 // A checked program on values: document 01, "Running", and 14 to 17; document 02, A.1, A.5, A.7 and A.11.
 #![tactic(auto)]
 
-ghost use Rattle.std.specs.Prelude.{◌≡◌, Bool, true, false, ◌<◌, not, position, length};
-ghost use Rattle.model.specs.Arith.{is_finite};
+ghost use Rattle.std.specs.Prelude.{◌≡◌, Bool, true, false, ◌<◌, not, position, length, replicate};
+ghost use Rattle.model.specs.Arith.{is_finite, plus_zero};
 ghost use Rattle.model.specs.Formula.{C, Y, X};
 ghost use Rattle.model.specs.Check.{word, chain, kind_of, is_sweep};
 ghost use Rattle.model.specs.Run as Run;
@@ -194,18 +194,36 @@ pub fn all_finite(values: &[f64]) -> Result<(), Refusal>
     ensures { verdict_of result ≡ fifteen (Run.not_finite 1 values.now) }
 {
     match first_not_finite(values) {
-        Some(at) => Err(Refusal::NotFinite {
-            position: at as u64 + 1,
+        0 => Ok(()),
+        position => Err(Refusal::NotFinite {
+            position: position as u64,
         }),
-        None => Ok(()),
+    }
+}
+
+// The position, from 1, of the first value that is not finite; 0 if all are.
+// Kept: 0 for none, as its clause has it, an equation with the definition not_finite.
+pub fn first_not_finite(values: &[f64]) -> usize
+    ensures { result ≡ Run.not_finite 1 values.now }
+{
+    match place_not_finite(values) {
+        Some(at) => at + 1,
+        None => 0,
     }
 }
 
 // The place, from 0, of the first value that is not finite.
-fn first_not_finite(values: &[f64]) -> Option<usize>
+fn place_not_finite(values: &[f64]) -> Option<usize>
     ensures { result ≡ position (λ v. not (is_finite v)) values.now }
 {
     values.iter().position(|value| !arith::is_finite(*value))
+}
+
+// All +0.
+pub fn clear(values: &mut [f64])
+    ensures { values.new ≡ replicate (length values.old) plus_zero }
+{
+    values.fill(0.0);
 }
 
 // The records of a program that passed 7 to 15 and 21, and C, Y and X cleared after 16 and 17.
@@ -227,9 +245,9 @@ fn run_records(
         Err(failure) => failure,
     };
     if let Failure::Stopped(_) = failure {
-        c.fill(0.0);
-        y.fill(0.0);
-        x.fill(0.0);
+        clear(c);
+        clear(y);
+        clear(x);
     }
     Err(failure)
 }
@@ -263,7 +281,7 @@ fn sweep(given: Given, c: &mut [f64], y: &mut [f64], x: &mut [f64]) -> Result<So
     requires words_value { is_sweep (word given.words.now 2) ≡ true }
     ensures { Stood (done given.entry.words.now given.entry.a.now given.entry.b.now given.entry.limit) (reply_of result) c.new y.new x.new }
 {
-    x.fill(0.0);
+    clear(x);
     let mut z = state::loaded(given.a.len(), given.b.len());
     for sweeps in 1..=300 {
         z = follow::<Sweeping>(given, c, y, x, z)?;

@@ -2,7 +2,7 @@
 // its answer, 0 while it goes on, and the table and number of the target it was refused at, and while it goes on how many of its products vanished.
 ghost use Rattle.std.specs.Prelude.{◌≡◌, ◌+◌, ◌*◌, ◌≤◌, ◌<◌, length, get_or};
 ghost use Rattle.model.specs.Arith.{plus_zero};
-ghost use Rattle.state.specs.States.{most_made, number_of_fault};
+ghost use Rattle.state.specs.States.{most_made};
 ghost use Rattle.sides.specs.Cells.{if_going, ended_by, subtracted, divided, One, Each, Started, read_as, Closed, any_going, Room, Laid, FewGone};
 
 use arith::Operation;
@@ -76,8 +76,8 @@ fn subtract_one(factor: f64, value: f64, at: At, r: usize, running: &mut [f64], 
             running[r] = value;
             out[4 * r + 4] += 1;
         }
-        Operation::Overflow => end_one(Fault::Overflow, at, r, running, out),
-        Operation::ZeroDivisor => end_one(Fault::ZeroDivisor, at, r, running, out),
+        Operation::Overflow => end_one(Fault::Overflow.number(), at, r, running, out),
+        Operation::ZeroDivisor => end_one(Fault::ZeroDivisor.number(), at, r, running, out),
     }
 }
 
@@ -101,32 +101,29 @@ fn divide_one(by: f64, at: At, r: usize, running: &mut [f64], out: &mut [u64])
     }
     match arith::quotient(running[r], by) {
         Operation::Number(value) | Operation::Vanished(value) => running[r] = value,
-        Operation::Overflow => end_one(Fault::Overflow, at, r, running, out),
-        Operation::ZeroDivisor => end_one(Fault::ZeroDivisor, at, r, running, out),
+        Operation::Overflow => end_one(Fault::Overflow.number(), at, r, running, out),
+        Operation::ZeroDivisor => end_one(Fault::ZeroDivisor.number(), at, r, running, out),
     }
 }
 
 // Every side that goes on is refused: where C is.
-pub fn end_each(fault: Fault, at: At, count: usize, running: &mut [f64], out: &mut [u64])
+pub fn end_each(number: u32, at: At, count: usize, running: &mut [f64], out: &mut [u64])
     requires { Room count (length running.old) (length out.old) }
-    ensures { Each count (λ r. if_going (ended_by at (number_of_fault fault))) running.old out.old running.new out.new }
+    ensures { Each count (λ r. if_going (ended_by at number)) running.old out.old running.new out.new }
 {
     for r in 0..count {
         if out[4 * r + 1] == 0 {
-            end_one(fault, at, r, running, out);
+            end_one(number, at, r, running, out);
         }
     }
 }
 
-// One side is refused, by 16 or 17 and at a record.
-fn end_one(fault: Fault, at: At, r: usize, running: &mut [f64], out: &mut [u64])
+// One side is refused, by a number and at a record.
+fn end_one(number: u32, at: At, r: usize, running: &mut [f64], out: &mut [u64])
     requires { (r < 64) × ((length running.old ≡ 64) × (length out.old ≡ 257)) }
-    ensures { One r (ended_by at (number_of_fault fault)) running.old out.old running.new out.new }
+    ensures { One r (ended_by at number) running.old out.old running.new out.new }
 {
-    let number = match fault {
-        Fault::Overflow => 16,
-        Fault::ZeroDivisor => 17,
-    };
+    let number = u64::from(number);
     out[4 * r + 1] = (number << 32) + u64::from(at.record);
     out[4 * r + 2] = u64::from(at.table);
     out[4 * r + 3] = u64::from(at.target);

@@ -79,7 +79,7 @@ fn step_in_c(
                 table: z.table,
                 target: z.target,
             };
-            end_each(fault, at, count, running, out);
+            end_each(fault.number(), at, count, running, out);
             z
         }
     }

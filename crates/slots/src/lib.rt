@@ -3,14 +3,14 @@
 
 pub mod lines;
 
-ghost use Rattle.std.specs.Prelude.{◌≡◌, true, cond, ◌&&◌, ◌++◌, suc, ◌+◌, ◌-◌, ◌*◌, ◌≤◌, ◌<◌, min, max, ltb, eqb, length, get_or, set, drop, replicate};
+ghost use Rattle.std.specs.Prelude.{◌≡◌, true, false, cond, ◌&&◌, ◌++◌, suc, ◌+◌, ◌-◌, ◌*◌, ◌≤◌, ◌<◌, min, max, ltb, eqb, length, get_or, set, drop, replicate};
 ghost use Rattle.model.specs.Label.{is_order};
 ghost use Rattle.model.specs.Label;
 ghost use Rattle.model.specs.Compile.{judged, good};
 ghost use Rattle.model.proofs.Labels.{Inside};
 ghost use Rattle.slots.specs.Marks.{Marked};
 ghost use Rattle.slots.specs.Walked.{Sized, Standing, Lined, EmptyRun, Settled, Fills};
-ghost use Rattle.slots.specs.Batch.{first_of};
+ghost use Rattle.slots.specs.Batch.{first_of, empty_at};
 ghost use Rattle.slots.specs.Unnoted.{Unnoted};
 
 use lines::{column_of, first_of, row_of};
@@ -42,17 +42,15 @@ pub struct Firsts {
 }
 
 impl Firsts {
-    // Nothing is noted. The zeros are written over in place: an array of 601s would be copied into the struct.
+    // Room for them, all zeros; `fill` clears it where it stands. If it were cleared in here, it would be copied into the caller's.
     #[inline(always)]
-    pub fn new() -> Firsts
-        ensures { Unnoted result }
+    pub fn room() -> Firsts
+        ensures { (result.rows ≡ replicate 601 0) × (result.columns ≡ replicate 601 0) }
     {
-        let mut firsts = Firsts {
+        Firsts {
             rows: [0; 601],
             columns: [0; 601],
-        };
-        firsts.clear();
-        firsts
+        }
     }
 
     // Nothing is noted any more.
@@ -107,13 +105,13 @@ pub fn clear(work: &mut [u32], count: usize)
     work[..count].fill(0);
 }
 
-// Each work number, a mark, becomes its place's slot, 0 where the place isn't held.
+// Each work number, a mark, becomes its place's slot, 0 where the place isn't held. What was noted before is cleared.
 pub fn fill(n: u32, work: &mut [u32], firsts: &mut Firsts) -> Filled
     requires n_value { is_order n ≡ true }
     requires n_in_bounds { n * n ≤ length work.old }
-    requires unnoted { Unnoted firsts.old }
     ensures { Fills n work.old work.new firsts.new.rows firsts.new.columns result }
 {
+    firsts.clear();
     let mut walk = Walk { done: 0, used: 0 };
     let mut products = 0;
     let mut above = 0;
@@ -261,7 +259,8 @@ fn settle(work: &mut [u32], firsts: &mut Firsts, i: u32, j: u32, held: bool, mut
 // that may be held: its other line, a row on a column, notes nothing before batch m.
 fn empty_run(n: u32, work: &[u32], firsts: &Firsts, m: u32, across: bool, t: u32, done: u32) -> u32
     requires { (t ≤ suc n) × (n ≤ 600) × (done + (suc n - t) ≤ length work.now) }
-    ensures { EmptyRun n across m t done work.now firsts.now.rows firsts.now.columns result }
+    ensures run { EmptyRun n across m t done work.now firsts.now.rows firsts.now.columns result }
+    ensures stops { empty_at n across m work.now firsts.now.rows firsts.now.columns (t + result) (done + result) ≡ false }
 {
     let noted = if across {
         &firsts.columns

@@ -7,7 +7,7 @@ ghost use Rattle.model.specs.Formula.{less};
 ghost use Rattle.model.specs.Sweep.{moves_more};
 ghost use Rattle.model.specs.Check.{kind_of};
 ghost use Rattle.model.specs.Run as Run;
-ghost use Rattle.state.specs.States.{most_made, unopened, whole, Sound, SoundStep, Free, Of, Ready, ReadyInC, SweepReady, MovesStep};
+ghost use Rattle.state.specs.States.{most_made, unopened, whole, Sound, SoundStep, Free, Of, Ready, ReadyInC, SweepReady, MovesStep, number_of_fault};
 ghost use Rattle.state.specs.States.{state_of, stepped_of, answered, opened, subtracted, divided_by, settled, unmoved};
 
 use arith::Operation;
@@ -35,6 +35,18 @@ pub struct State {
 pub enum Fault {
     Overflow,
     ZeroDivisor,
+}
+
+impl Fault {
+    // Its number in document 01.
+    pub fn number(self) -> u32
+        ensures { result ≡ number_of_fault self }
+    {
+        match self {
+            Fault::Overflow => 16,
+            Fault::ZeroDivisor => 17,
+        }
+    }
 }
 
 impl State {

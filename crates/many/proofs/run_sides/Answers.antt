@@ -1,7 +1,6 @@
 -- `many::run_sides`: the pass, then what each side tells, then what is left in Y, X and C.
 use Prim.Native.Nat.{◌*◌, ◌≤◌}
 use native.Mathlib.Omega.{arith}
-use lib.Ieee.{of_bits}
 use mathlib.Core.Path.{◌≡◌, sym, ap, ◌∙◌}
 use lib.ListN.{length}
 use Rattle.model.specs.Formula.{Y, X}
@@ -56,11 +55,10 @@ left c =
     )
 
 pub returns-then-not-any_going : goal.returns-then-not-any_going
-unfolding of_bits
 returns-then-not-any_going c =
     let l = left (goal.at.returns-then-not-any_going c).After-clear_ended-2 in
     let none = sym c.any_going.ensures ∙ c.if-not-any_going.true in
-    (l.0, (c.fill.ensures.after (λ y same. same) ∙ left-c-none c.pass-z.ensures c.tell_each.ensures _ c.pass-z.auto.c none, l.1))
+    (l.0, (c.clear.ensures ∙ left-c-none c.pass-z.ensures c.tell_each.ensures _ c.pass-z.auto.c none, l.1))
 
 pub returns-else-not-any_going : goal.returns-else-not-any_going
 returns-else-not-any_going c =

@@ -45,4 +45,4 @@ pub returns : goal.returns
 returns c =
     let a = c.args in
     let s = stood a.n a.plan.now a.work.now c.in_ok-check.ensures c.fill.ensures in
-    record { answer = traced s a.i a.j c.is_held.ensures c.if-not-is_held.false (omega arith) c.trace.ensures; work = s.written }
+    record { answer = traced s a.i a.j c.is_held.ensures c.if-not-is_held.false (omega arith) c.trace.ensures.shown; work = s.written }

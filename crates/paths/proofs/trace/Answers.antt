@@ -1,7 +1,7 @@
 -- `paths::trace`: each turn is a law of `Trails`.
 use Rattle.std.proofs.Common.{ℕ, sym, refl, ◌∙◌, replicate, length-set, arith}
 use Rattle.std.proofs.lemmas.List.{length-replicate}
-use Rattle.paths.proofs.Trails.{begun, counted, on_trail, turned, shown, leads-here, room, reached, deep_enough, pushed}
+use Rattle.paths.proofs.Trails.{begun, counted, on_trail, turned, whole, shown, leads-here, room, reached, deep_enough, pushed}
 use Rattle.paths.proofs.trace.Goals as goal
 
 pub loop-next-init : goal.loop-next-init
@@ -83,4 +83,7 @@ pub overflow_cast-result : goal.overflow_cast-result
 overflow_cast-result c = omega (arith, counted c.requires.leads c.loop-next.invariant, c.requires.stands.high)
 
 pub returns : goal.returns
-returns c = shown c.requires.leads c.loop-next.invariant _ refl c.loop-next-test.false
+returns c =
+    let path = c.loop-next.invariant in
+    let ended = c.loop-next-test.false in
+    record { shown = shown c.requires.leads path ended _ refl; smallest = whole c.requires.leads path ended }

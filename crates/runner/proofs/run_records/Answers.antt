@@ -1,5 +1,4 @@
 -- `runner::run_records`: the records, and then the tables cleared if they stopped.
-use lib.Ieee.{of_bits}
 use mathlib.Core.Path.{sym, subst, ◌∙◌}
 use Rattle.std.proofs.Common.{Err}
 use Rattle.model.proofs.Running.{done_not_refused}
@@ -12,15 +11,11 @@ pub returns-in-Ok : goal.returns-in-Ok
 returns-in-Ok c = leaves_final _ _ _ _ _ _ _ _ (λ stops. stops) (done_not_refused _ _ _ _ _) c.in-Ok.ensures
 
 pub returns-in-Stopped : goal.returns-in-Stopped
-unfolding of_bits
 returns-in-Stopped c =
     let f = c.by_method in
     let told = subst (λ (failure : Failure). StoppedReply (reply_of (Err failure))) (sym c.in-Stopped.is) tt in
     let l = leaves-cleared c.args.c.now c.args.y.now c.args.x.now f.new.c f.new.y f.new.x _ _ told c.in-Err.ensures.0 f.auto.c f.auto.y f.auto.x in
-    let in_c = c.fill.ensures.after (λ y same. same) in
-    let in_y = c.fill-in-Stopped.ensures.after (λ y same. same) in
-    let in_x = c.fill-in-Stopped-2.ensures.after (λ y same. same) in
-    (l.0, (in_c ∙ l.1.0, (in_y ∙ l.1.1.0, in_x ∙ l.1.1.1)))
+    (l.0, (c.clear.ensures ∙ l.1.0, (c.clear-in-Stopped.ensures ∙ l.1.1.0, c.clear-in-Stopped-2.ensures ∙ l.1.1.1)))
 
 pub returns-in_default : goal.returns-in_default
 returns-in_default c =

@@ -2,18 +2,15 @@
 use Prim.Native.Nat.{suc, ◌+◌, ◌-◌}
 use native.Mathlib.Omega.{arith}
 use mathlib.Core.Path.{◌≡◌}
-use lib.Ieee.{of_bits}
 use borrow.Author.Tests.{not-true, not-false}
 use Rattle.std.proofs.lemmas.Result.{err_from_is_err_and}
 use Rattle.runner.proofs.Sweeps.{sweeps_start, sweeps_end, sweep_begins, sweep_stopped, sweep_settles, sweep_again}
 use Rattle.runner.proofs.sweep.Goals as goal
 
 pub loop-sweeps-init : goal.loop-sweeps-init
-unfolding of_bits
 loop-sweeps-init c =
     let a = c.args in
-    sweeps_start a.c.now a.y.now a.x.now c.fill.new.self c.loaded-z.result c.requires.fit c.requires.words_value
-    (c.fill.ensures.after (λ y same. same)) c.loaded-z.ensures
+    sweeps_start a.c.now a.y.now a.x.now c.clear.new.values c.loaded-z.result c.requires.fit c.requires.words_value c.clear.ensures c.loaded-z.ensures
 
 pub follow-requires : goal.follow-requires
 follow-requires c =

@@ -12,4 +12,4 @@ pub returns-in-Err-clause-steps_in_c : goal.returns-in-Err-clause-steps_in_c
 returns-in-Err-clause-steps_in_c c =
     let a = c.args in
     (ends a.a.now a.limit a.k a.kind a.p a.q a.z a.c.now _ _ _ _ c.step_in_c.ensures.c_after c.requires.0 a.count
-    a.running.now a.out.now c.in-Err.is c.end_each.ensures).0
+    a.running.now a.out.now c.in-Err.is (rw c.number.ensures at c.end_each.ensures)).0

@@ -6,7 +6,7 @@ use Rattle.slots.proofs.Pass.{pass_start, turn_column, turn_small, turn_next, pa
 use Rattle.slots.proofs.fill.Goals as goal
 
 pub loop-m-init : goal.loop-m-init
-loop-m-init c = λ L marked. let notes = c.requires.unnoted in pass_start marked notes.0 notes.1
+loop-m-init c = λ L marked. let notes = c.clear.ensures in pass_start marked notes.0 notes.1
 
 pub fill_line-walk-requires-clause-standing : goal.fill_line-walk-requires-clause-standing
 fill_line-walk-requires-clause-standing c =

@@ -55,7 +55,7 @@ pub overflow_add-walk : goal.overflow_add-walk
 overflow_add-walk c =
     let p = c.requires.sized in
     let room = along_room p.0 p.1 p.2 (c.loop-t.invariant _ c.requires.standing.reached) in
-    omega (arith, room, c.settle-walk.ensures.done, c.empty_run-empty.ensures.inside)
+    omega (arith, room, c.settle-walk.ensures.done, c.empty_run-empty.ensures.run.inside)
 
 pub loop-t-preserved : goal.loop-t-preserved
 loop-t-preserved c = λ L r.
@@ -70,4 +70,4 @@ loop-t-preserved c = λ L r.
     ] in
     let after = along_next p.0 p.1 p.2 along c.loop-t-test.true c.row_of-i.ensures c.column_of-j.ensures known c.settle-walk.ensures in
     let e : c.loop-t.t + (c.empty_run-empty.result + 1) ≡ suc c.loop-t.t + c.empty_run-empty.result = omega arith in
-    rw e (along_run p.0 p.1 p.2 _ after (rw add-one at c.empty_run-empty.ensures))
+    rw e (along_run p.0 p.1 p.2 _ after (rw add-one at c.empty_run-empty.ensures.run))
